@@ -1,5 +1,6 @@
-pub mod Refusals
 pub mod Answers
-pub mod Weighing
 pub mod Limits
 pub mod Meaning
+pub mod Refusals
+pub mod Values
+pub mod Weighing

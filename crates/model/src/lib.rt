@@ -1,9 +1,18 @@
 // Definitions and interfaces: scores, differences, the grounds of refusal, and what a preference and a variant are.
 mod answers;
+mod difference;
+mod figures;
 mod judgement;
+mod lists;
 mod refusal;
+mod scoring;
+mod weight;
 
 pub use answers::ListAnswer;
 pub use answers::TopAnswer;
+pub use difference::Difference;
+pub use figures::Figures;
 pub use judgement::Judgement;
 pub use refusal::Refusal;
+pub use scoring::score;
+pub use weight::Weight;

@@ -1,0 +1,37 @@
+-- A loop that looks whether every element of a list passes a test: where it stops early, and where it comes to the end.
+use Prim.Native.Nat.{ℕ, _≤_, _<_}
+use mathlib.Core.Path.{_≡_, refl, sym, ap, subst, _∙_}
+use native.Mathlib.Omega.{arith}
+use borrow.Author.Tests.{clash}
+use mathlib.Core.Bool.{true, false}
+use mathlib.Core.List.{List}
+use lib.ListN.{length, getD, take, length-take}
+use lib.Seq.{take-all, getD-take}
+use Rattle.std.specs.Orderings.{Decides}
+use Rattle.std.specs.shelf.Lists.{All}
+use Rattle.std.proofs.shelf.Elements.{all-getD, all-from-getD}
+
+pub decides-yes : {P : Type 0} → P → Decides true P
+decides-yes p = ((λ e. p), (λ q. refl))
+
+pub decides-no : {P : Type 0} → (P → ⊥) → Decides false P
+decides-no n = ((λ e. absurd (clash e)), (λ p. absurd (n p)))
+
+module _ {X : Type 0} (P : X → Type 0) (xs : List X) where
+  -- an element fails
+  pub stops : (i : ℕ) (d : X) → i < length xs → (P (getD xs i d) → ⊥) → Decides false (All P xs)
+  stops i d within fails = decides-no (λ all. fails (all-getD P xs i d within all))
+
+  -- every element has passed
+  pub ends : (n : ℕ) → length xs ≤ n → All P (take n xs) → Decides true (All P xs)
+  ends n past all = decides-yes (subst (All P) (take-all n xs past) all)
+
+-- what holds of each element of a list holds at each of its places in a list that begins with it
+pub front-each : {X : Type 0} (P : X → Type 0) (xs ys : List X) (d : X) → take (length xs) ys ≡ xs → All P xs → (k : ℕ) → k < length xs → P (getD ys k d)
+front-each P xs ys d front all k within =
+    subst P (ap (λ zs. getD zs k d) (sym front) ∙ getD-take (length xs) ys k d within) (all-getD P xs k d within all)
+
+-- what holds at each of the first n places holds of each element of the front
+pub all-front : {X : Type 0} (P : X → Type 0) (ys : List X) (n : ℕ) (d : X) → ((k : ℕ) → k < n → P (getD ys k d)) → All P (take n ys)
+all-front P ys n d each =
+    all-from-getD P (take n ys) d (λ k within. let below : k < n = omega (arith, rw length-take at within) in subst P (sym (getD-take n ys k d below)) (each k below))

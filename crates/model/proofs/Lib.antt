@@ -1,0 +1,4 @@
+pub mod Each
+pub mod Stored
+pub mod Sums
+pub mod Tables
