@@ -4,12 +4,13 @@ use mathlib.Core.Path.{_≡_, refl, sym, ap, subst, _∙_}
 use native.Mathlib.Omega.{arith}
 use borrow.Author.Tests.{clash}
 use mathlib.Core.Bool.{true, false}
-use mathlib.Core.List.{List}
-use lib.ListN.{length, getD, take, length-take}
+use mathlib.Core.List.{List, _++_}
+use lib.ListN.{length, getD, take, replicate, length-take}
 use lib.Seq.{take-all, getD-take}
 use Rattle.std.specs.Orderings.{Decides}
 use Rattle.std.specs.shelf.Lists.{All}
 use Rattle.std.proofs.shelf.Elements.{all-getD, all-from-getD}
+use Rattle.std.proofs.shelf.Lists.{take-at}
 
 pub decides-yes : {P : Type 0} → P → Decides true P
 decides-yes p = ((λ e. p), (λ q. refl))
@@ -35,3 +36,7 @@ front-each P xs ys d front all k within =
 pub all-front : {X : Type 0} (P : X → Type 0) (ys : List X) (n : ℕ) (d : X) → ((k : ℕ) → k < n → P (getD ys k d)) → All P (take n ys)
 all-front P ys n d each =
     all-from-getD P (take n ys) d (λ k within. let below : k < n = omega (arith, rw length-take at within) in subst P (sym (getD-take n ys k d below)) (each k below))
+
+-- the front of what is filled up
+pub front-filled : {X : Type 0} (xs ys : List X) (n : ℕ) (x : X) → length xs ≤ 8 → ys ≡ take 8 xs ++ replicate n x → take (length xs) ys ≡ xs
+front-filled xs ys n x few same = ap (take (length xs)) (same ∙ ap (λ zs. zs ++ replicate n x) (take-all 8 xs few)) ∙ take-at xs (replicate n x) (length xs) refl

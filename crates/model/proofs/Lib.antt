@@ -1,4 +1,6 @@
+pub mod Asked
 pub mod Each
+pub mod Orders
 pub mod Stored
 pub mod Sums
 pub mod Tables

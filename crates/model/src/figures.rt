@@ -3,6 +3,9 @@ ghost use lib.ListN.{length, getD};
 ghost use Rattle.model.specs.Limits.{In-limit};
 
 mod methods;
+mod order;
+
+pub use order::FiguresVariant;
 
 // The figures of a variant: 1 to 8 numbers up to 1,000,000, lower being better.
 #[derive(Clone, Copy)]

@@ -1,6 +1,7 @@
 ghost use mathlib.Core.Path.{_≡_};
-ghost use Prim.Native.Nat.{_≤_};
-ghost use lib.ListN.{length, take};
+ghost use Prim.Native.Nat.{_-_};
+ghost use lib.ListN.{length, take, replicate};
+ghost use mathlib.Core.List.{_++_};
 ghost use Rattle.std.specs.Orderings.{Decides};
 ghost use Rattle.std.specs.shelf.Lists.{All};
 ghost use Rattle.model.specs.Limits.{In-limit, In-range};
@@ -35,14 +36,14 @@ pub(crate) fn within_range(entries: &[i64]) -> bool
     true
 }
 
-// The numbers at the front of an array of eight.
-pub(crate) fn padded<T: Copy>(numbers: &[T], filler: T) -> [T; 8]
-    requires { ⌜ length (now numbers) ≤ 8 ⌝ }
-    ensures { λ r. ⌜ take (length (now (numbers .entry))) r ≡ now (numbers .entry) ⌝ }
+// The first eight numbers, filled up to eight with the filler.
+pub fn padded<T: Copy>(numbers: &[T], filler: T) -> [T; 8]
+    ensures { λ r. ⌜ r ≡ take 8 (now (numbers .entry)) ++ replicate (8 - length (now (numbers .entry))) filler ⌝ }
 {
     let mut all = [filler; 8];
-    for (index, number) in numbers.iter().enumerate() {
-        all[index] = *number;
+    let count = numbers.len().min(8);
+    for index in 0..count {
+        all[index] = numbers[index];
     }
     all
 }

@@ -2,6 +2,8 @@ ghost use mathlib.Core.Path.{_≡_};
 ghost use Rattle.model.specs.Values.{figures-of, parts-of};
 ghost use Rattle.model.specs.Weighing.{score as score-of};
 use crate::Figures;
+use crate::FiguresVariant;
+use crate::Variant;
 use crate::Weight;
 
 // The score of the figures under the weight; lower is better.

@@ -1,5 +1,4 @@
 ghost use mathlib.Core.Path.{_≡_};
-ghost use lib.ListN.{getD};
 ghost use Rattle.model.specs.Limits.{figures-grounds};
 ghost use Rattle.model.specs.Refusals.{Checked};
 ghost use Rattle.model.specs.Values.{figures-of};
@@ -30,12 +29,5 @@ impl Figures {
         ensures { λ r. ⌜ now r ≡ figures-of (now (self .entry)) ⌝ }
     {
         &self.values[0..self.count]
-    }
-
-    // The figure at a place from 0, and 0 past the last.
-    pub fn figure(&self, index: usize) -> u32
-        ensures { λ r. ⌜ r ≡ getD (figures-of (now (self .entry))) index 0 ⌝ }
-    {
-        if index < self.count { self.values[index] } else { 0 }
     }
 }

@@ -4,7 +4,7 @@ use native.Mathlib.Omega.{arith}
 use lib.Seq.{getD-take}
 use Rattle.std.proofs.shelf.Lists.{getD-past, length-take}
 use Rattle.model.specs.Values.{figures-of}
-use Rattle.model.proofs.figures.Figures.figure.Needs as need
+use Rattle.model.proofs.figures.order.FiguresVariant.figure.Needs as need
 
 pub returns-then-index-self : need.returns-then-index-self
 returns-then-index-self c = sym (getD-take (c .args .self .now .count) (c .args .self .now .values) (c .args .index) 0 (c .if-index-self .taken))
