@@ -4,3 +4,4 @@ pub mod Orders
 pub mod Stored
 pub mod Sums
 pub mod Tables
+pub mod Weighed
