@@ -3,20 +3,34 @@ use Prim.Native.Nat.{ℕ, _≤_, _<_}
 use mathlib.Core.Path.{_≡_, refl, sym, ap, subst, _∙_}
 use native.Mathlib.Omega.{arith}
 use borrow.Author.Tests.{clash}
-use mathlib.Core.Bool.{true, false}
+use mathlib.Core.Bool.{Bool, true, false}
 use mathlib.Core.List.{List, _++_}
 use lib.ListN.{length, getD, take, replicate, length-take}
 use lib.Seq.{take-all, getD-take}
+use lib.Dec.{T}
+use lib.IntN.{ℤ}
+use lib.Signed.{leZ, leZ-yes, _≤ℤ_}
 use Rattle.std.specs.Orderings.{Decides}
 use Rattle.std.specs.shelf.Lists.{All}
 use Rattle.std.proofs.shelf.Elements.{all-getD, all-from-getD}
 use Rattle.std.proofs.shelf.Lists.{take-at}
+use Rattle.std.proofs.shelf.Ways.{decides-at}
 
 pub decides-yes : {P : Type 0} → P → Decides true P
 decides-yes p = ((λ e. p), (λ q. refl))
 
 pub decides-no : {P : Type 0} → (P → ⊥) → Decides false P
 decides-no n = ((λ e. absurd (clash e)), (λ p. absurd (n p)))
+
+pub decides-le : (a b : ℤ) → Decides (leZ a b) (a ≤ℤ b)
+decides-le a b = ((λ e. leZ-yes (subst T (sym e) tt)), (λ h. true-of (leZ a b) (h .le)))
+  where
+    true-of : (t : Bool) → T t → t ≡ true
+    true-of true h = refl
+    true-of false h = absurd h
+
+pub decides-le-at : (x y a b : ℤ) → x ≡ a → y ≡ b → Decides (leZ x y) (a ≤ℤ b)
+decides-le-at x y a b p q = decides-at (leZ x y) (leZ a b) (ap (λ z. leZ z y) p ∙ ap (leZ a) q) (decides-le a b)
 
 module _ {X : Type 0} (P : X → Type 0) (xs : List X) where
   -- an element fails

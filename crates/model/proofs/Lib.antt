@@ -1,5 +1,6 @@
 pub mod Asked
 pub mod Each
+pub mod Machine
 pub mod Orders
 pub mod Stored
 pub mod Sums

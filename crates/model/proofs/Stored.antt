@@ -40,6 +40,9 @@ figures-limits figures = all-front In-limit (figures .values) (figures .count) 0
 pub parts-count : (weight : Weight) → length (parts-of weight) ≡ weight .count
 parts-count weight = front-count (weight .count) (weight .parts) (weight .stored)
 
+pub parts-few : (weight : Weight) → length (parts-of weight) ≤ 8
+parts-few weight = omega (arith, parts-count weight, weight .most)
+
 pub parts-limits : (weight : Weight) → All In-limit (parts-of weight)
 parts-limits weight = all-front In-limit (weight .parts) (weight .count) 0 (weight .limits)
 

@@ -17,6 +17,7 @@ pub use difference::Difference;
 pub use figures::Figures;
 pub use figures::FiguresVariant;
 pub use judgement::Judgement;
+pub use lists::padded;
 pub use preference::Preference;
 pub use refusal::Refusal;
 pub use scoring::score;

@@ -1,5 +1,5 @@
 ghost use mathlib.Core.Path.{_≡_};
-ghost use Prim.Native.Nat.{_<_};
+ghost use Prim.Native.Nat.{_<_, _≤_};
 ghost use Rattle.std.specs.Orderings.{Decides};
 ghost use Rattle.model.specs.Limits.{weight-grounds};
 ghost use Rattle.model.specs.Refusals.{Checked};
@@ -37,7 +37,8 @@ impl Weight {
 
     // The sum of the parts.
     pub fn total(&self) -> u64
-        ensures { λ r. ⌜ r ≡ total (parts-of (now (self .entry))) ⌝ }
+        ensures value { λ r. ⌜ r ≡ total (parts-of (now (self .entry))) ⌝ }
+        ensures bound { λ r. ⌜ r ≤ 8000000 ⌝ }
     {
         let parts = self.parts();
         let mut sum: u64 = 0;

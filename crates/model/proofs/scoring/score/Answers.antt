@@ -7,7 +7,7 @@ use Rattle.std.specs.shelf.Lists.{All}
 use Rattle.model.specs.Limits.{In-limit}
 use Rattle.model.specs.Values.{figures-of}
 use Rattle.model.specs.Weighing.{score}
-use Rattle.model.proofs.Stored.{limit-at, limit-product, parts-limits, parts-count, figures-limits}
+use Rattle.model.proofs.Stored.{limit-at, limit-product, parts-limits, parts-few, figures-limits}
 use Rattle.model.proofs.Sums.{score-more}
 use Rattle.model.proofs.scoring.score.Needs as need
 
@@ -22,7 +22,7 @@ small c =
 
 -- there are at most eight parts
 few : (c : need.After-from-in-loop-index) → length (c .parts-parts .result .now) ≤ 8
-few c = omega (arith, ap length (c .parts-parts .ensures), parts-count (c .args .weight .now), c .args .weight .now .most)
+few c = omega (arith, ap length (c .parts-parts .ensures), parts-few (c .args .weight .now))
 
 pub add-sum : need.add-sum
 add-sum c = omega (arith, small c, few c)

@@ -1,0 +1,4 @@
+pub mod Constraints
+pub mod Making
+pub mod RowList
+pub mod Stored

@@ -1,0 +1,5 @@
+// The kinds of preference.
+mod row;
+mod rows;
+
+pub use rows::Rows;

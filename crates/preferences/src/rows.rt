@@ -1,0 +1,13 @@
+ghost use Prim.Native.Nat.{_≤_};
+ghost use Rattle.std.specs.Of.Vec.{vec-len};
+use crate::row::Row;
+use model::Weight;
+
+// A preference given by rows, at most 16 of them, with a sample weight.
+#[derive(Drop)]
+pub struct Rows {
+    dims: usize,
+    rows: Vec<Row>,
+    sample: Weight,
+    ghost few: { vec-len rows ≤ 16 },
+}
