@@ -4,6 +4,9 @@ use mathlib.Core.Path.{_≡_}
 use mathlib.Core.Logic.{_⊎_}
 use Rattle.std.specs.Results.{Cases}
 use Rattle.std.specs.declared.result.Result.{Result}
+use Rattle.std.specs.declared.result.Result.the-variants.{Ok, Err}
+use Rattle.model.specs.declared.make_error.MakeError.{MakeError}
+use Rattle.model.specs.declared.make_error.MakeError.the-variants.{Refused, Memory}
 use Rattle.model.specs.declared.refusal.Refusal.{Refusal}
 use Rattle.model.specs.declared.refusal.Refusal.the-variants.{FileSize, Header, Offsets, FigureCount, Rows, Sample, Width, Part, Full, SameFigures, NotAdmissible, ClaimBytes, NotStanding, Mixture, ProofLength, ProofNumber, OutOfRange, NotShown, Buffer}
 
@@ -70,3 +73,9 @@ Unopposed Meets = (s : Refusal) → Meets s → ⊥
 -- a call's result: a value with the property P exactly where no ground meets the call, and elsewhere the first ground that meets it
 abbrev pub Checked : {X : Type 0} → (Refusal → Type 0) → Result X Refusal → (X → Type 0) → Type 0
 Checked Meets result P = Cases result (λ x. Unopposed Meets × P x) (Refuses Meets)
+
+-- The result of a call that needs memory: a value with the property P only where no ground meets the call; the first ground wherever one does; and want of memory, which has no number, only where no ground meets the call. So no refusal depends on memory.
+abbrev pub Made : {X : Type 0} → (Refusal → Type 0) → Result X MakeError → (X → Type 0) → Type 0
+Made Meets (Ok x) P = Unopposed Meets × P x
+Made Meets (Err (Refused r)) P = Refuses Meets r
+Made Meets (Err Memory) P = Unopposed Meets

@@ -1,0 +1,4 @@
+pub mod Certificates
+pub mod Held
+pub mod Lists
+pub mod Rules

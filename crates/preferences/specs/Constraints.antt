@@ -37,12 +37,7 @@ lift [] multipliers i = pos 0
 lift (row ∷ rows) [] i = pos 0
 lift (row ∷ rows) (multiplier ∷ multipliers) i = (pos multiplier *ℤ effective row i) +ℤ lift rows multipliers i
 
--- one multiplier for each row shows a difference of d figures when at each figure the difference and what they add are together not negative
-abbrev pub Shows : ℕ → List Constraint → List ℤ → List ℕ → Type 0
-Shows d rows difference multipliers =
-    (length difference ≡ d) × (length multipliers ≡ length rows) × ((i : ℕ) → i < d → pos 0 ≤ℤ (getD difference i (pos 0) +ℤ lift rows multipliers i))
-
--- The same two as tests.
+-- The answer to a proper weight, as a test.
 abbrev pub all-keep : List ℕ → List Constraint → Bool
 all-keep weight [] = true
 all-keep weight (row ∷ rows) = leZ (weighed weight (row .coefficients)) (row .bound *ℤ pos (total weight)) && all-keep weight rows
@@ -50,10 +45,12 @@ all-keep weight (row ∷ rows) = leZ (weighed weight (row .coefficients)) (row .
 abbrev pub admits : ℕ → List Constraint → List ℕ → Bool
 admits d rows weight = eqb (length weight) d && all-keep weight rows
 
+-- no value at the first n places is negative
 abbrev pub none-negative : (ℕ → ℤ) → ℕ → Bool
 none-negative value zero = true
 none-negative value (suc n) = nonNeg (value n) && none-negative value n
 
+-- multipliers, one for each row, show a difference of d figures when at each figure the difference and what they add are together not negative
 abbrev pub shows : ℕ → List Constraint → List ℤ → List ℕ → Bool
 shows d rows difference multipliers =
     eqb (length difference) d && (eqb (length multipliers) (length rows) && none-negative (λ i. getD difference i (pos 0) +ℤ lift rows multipliers i) d)

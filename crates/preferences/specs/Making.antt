@@ -24,10 +24,15 @@ rows-meaning d rows sample =
       judged = λ difference multipliers. cond (shows d rows difference multipliers) Judgement.Shown Judgement.NotShown
     }
 
+-- a sample that rows can be made with: a proper weight of d figures that is admissible under them
+pub record Good-sample (d : ℕ) (numbers : List ℤ) (sample : List ℕ) : Type 0 where
+  pub proper : Proper d sample
+  pub admissible : Admissible d (rows-in d numbers) sample
+
 -- rows are refused where d is not 1 to 8, the numbers are no list of rows, or the sample is no proper weight or not admissible
 abbrev pub rows-grounds : ℕ → List ℤ → List ℕ → Refusal → Type 0
 rows-grounds d numbers sample =
     line Refusal.FigureCount (Figure-count d → ⊥)
     (line Refusal.Rows (Row-list d numbers → ⊥)
-    (line Refusal.Sample ((Proper d sample × Admissible d (rows-in d numbers) sample) → ⊥)
+    (line Refusal.Sample (Good-sample d numbers sample → ⊥)
     end))

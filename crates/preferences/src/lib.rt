@@ -3,3 +3,4 @@ mod row;
 mod rows;
 
 pub use rows::Rows;
+pub use rows::RowsPreference;
