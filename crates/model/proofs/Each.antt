@@ -4,7 +4,7 @@ use mathlib.Core.Path.{_≡_, refl, sym, ap, subst, _∙_}
 use native.Mathlib.Omega.{arith}
 use borrow.Author.Tests.{clash}
 use mathlib.Core.Bool.{Bool, true, false}
-use mathlib.Core.List.{List, _++_}
+use mathlib.Core.List.{List, _++_, map}
 use lib.ListN.{length, getD, take, replicate, length-take}
 use lib.Seq.{take-all, getD-take}
 use lib.Dec.{T}
@@ -13,7 +13,7 @@ use lib.Signed.{leZ, leZ-yes, _≤ℤ_}
 use Rattle.std.specs.Orderings.{Decides}
 use Rattle.std.specs.shelf.Lists.{All}
 use Rattle.std.proofs.shelf.Elements.{all-getD, all-from-getD}
-use Rattle.std.proofs.shelf.Lists.{take-at}
+use Rattle.std.proofs.shelf.Lists.{take-at, getD-map}
 use Rattle.std.proofs.shelf.Ways.{decides-at}
 
 pub decides-yes : {P : Type 0} → P → Decides true P
@@ -54,3 +54,7 @@ all-front P ys n d each =
 -- the front of what is filled up
 pub front-filled : {X : Type 0} (xs ys : List X) (n : ℕ) (x : X) → length xs ≤ 8 → ys ≡ take 8 xs ++ replicate n x → take (length xs) ys ≡ xs
 front-filled xs ys n x few same = ap (take (length xs)) (same ∙ ap (λ zs. zs ++ replicate n x) (take-all 8 xs few)) ∙ take-at xs (replicate n x) (length xs) refl
+
+-- an element that was read, in the list of what the elements stand for
+pub read-mapped : {X Y : Type 0} (f : X → Y) (xs : List X) (k : ℕ) (x : X) → k < length xs → x ≡ getD xs k x → getD (map f xs) k (f x) ≡ f x
+read-mapped f xs k x within is = getD-map f xs k x (f x) within ∙ ap f (sym is)

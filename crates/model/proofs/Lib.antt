@@ -1,6 +1,7 @@
 pub mod Asked
 pub mod Each
 pub mod Machine
+pub mod Mixtures
 pub mod Orders
 pub mod Stored
 pub mod Sums

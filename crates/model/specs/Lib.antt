@@ -1,4 +1,5 @@
 pub mod Answers
+pub mod Claims
 pub mod Limits
 pub mod Meaning
 pub mod Questions

@@ -1,7 +1,7 @@
 -- The rows of a flat list, taken from its front one by one, and what multipliers add, one row more at a time.
 use Prim.Native.Nat.{ℕ, zero, suc, _+_, _-_, _/_, _≤_, _<_}
 use mathlib.Core.Bool.{Bool, _&&_}
-use mathlib.Core.List.{List, [], _∷_, map}
+use mathlib.Core.List.{List, [], _∷_}
 use mathlib.Core.Path.{_≡_, refl, sym, ap, _∙_}
 use native.Mathlib.Nat.{div-eq-of-lt, div-eq-sub-div}
 use native.Mathlib.Numerals.{add-one}
@@ -9,7 +9,7 @@ use native.Mathlib.Omega.{arith}
 use lib.IntN.{ℤ, pos, _+ℤ_, _*ℤ_, +ℤ-idl, +ℤ-idr, +ℤ-assoc}
 use lib.ListN.{length, getD, take, drop}
 use lib.Seq.{getD-take}
-use Rattle.std.proofs.shelf.Lists.{length-drop, length-take-le, take-take, getD-map}
+use Rattle.std.proofs.shelf.Lists.{length-drop, length-take-le, take-take}
 use Rattle.std.proofs.shelf.Elements.{all-take}
 use Rattle.std.proofs.shelf.Ways.{same-from-decides}
 use Rattle.std.specs.Orderings.{Decides}
@@ -67,7 +67,3 @@ lift-suc (row ∷ rows) (m ∷ ms) (suc k) i r h g =
 
 pub lift-more : (rows : List Constraint) (ms : List ℕ) (k i : ℕ) (r : Constraint) → k < length rows → k < length ms → lift (take (k + 1) rows) (take (k + 1) ms) i ≡ lift (take k rows) (take k ms) i +ℤ (pos (getD ms k 0) *ℤ effective (getD rows k r) i)
 lift-more rows ms k i r h g = rw add-one (lift-suc rows ms k i r h g)
-
--- an element that was read, in the list of what the elements stand for
-pub read-mapped : {X Y : Type 0} (f : X → Y) (xs : List X) (k : ℕ) (x : X) → k < length xs → x ≡ getD xs k x → getD (map f xs) k (f x) ≡ f x
-read-mapped f xs k x within is = getD-map f xs k x (f x) within ∙ ap f (sym is)

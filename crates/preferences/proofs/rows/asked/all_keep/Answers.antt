@@ -9,10 +9,9 @@ use Rattle.std.proofs.shelf.Elements.{all-more}
 use Rattle.std.proofs.shelf.Lists.{length-map}
 use Rattle.std.proofs.shelf.Ways.{not-from-decides}
 use Rattle.model.specs.Values.{parts-of}
-use Rattle.model.proofs.Each.{stops, ends}
+use Rattle.model.proofs.Each.{stops, ends, read-mapped}
 use Rattle.preferences.specs.Constraints.{Keeps}
 use Rattle.preferences.specs.Stored.{constraint-of}
-use Rattle.preferences.proofs.Lists.{read-mapped}
 use Rattle.preferences.proofs.rows.asked.all_keep.Needs as need
 
 pub returns-then-not-keeps : need.returns-then-not-keeps

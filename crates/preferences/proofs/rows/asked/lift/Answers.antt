@@ -6,10 +6,11 @@ use lib.Dec.{lit<}
 use lib.IntN.{ℤ, pos, natAbs, _+ℤ_, _*ℤ_}
 use lib.ListN.{length, getD, take}
 use Rattle.std.proofs.shelf.Lists.{length-map, take-all}
+use Rattle.model.proofs.Each.{read-mapped}
 use Rattle.model.proofs.Machine.{Added, added}
 use Rattle.preferences.specs.Constraints.{effective, lift}
 use Rattle.preferences.specs.Stored.{constraint-of}
-use Rattle.preferences.proofs.Lists.{lift-more, read-mapped}
+use Rattle.preferences.proofs.Lists.{lift-more}
 use Rattle.preferences.proofs.rows.asked.lift.Needs as need
 
 -- one row more
