@@ -11,11 +11,14 @@ pub impl Variant for Figures as FiguresVariant {
     ghost better = { λ x y. no-greater (figures-of x) (figures-of y) };
 
     fn count(&self) -> usize {
-        self.count
+        self.values().len()
     }
 
     fn figure(&self, index: usize) -> u32 {
-        if index < self.count { self.values[index] } else { 0 }
+        match self.values().get(index) {
+            Some(figure) => *figure,
+            None => 0,
+        }
     }
 
     fn at_least_as_good(&self, other: &Figures) -> bool {

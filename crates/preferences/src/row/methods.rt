@@ -1,11 +1,11 @@
 ghost use mathlib.Core.Path.{_≡_};
 ghost use Prim.Native.Nat.{_+_, _≤_};
 ghost use lib.ListN.{length, getD};
-ghost use lib.IntN.{pos, natAbs};
+ghost use lib.IntN.{pos, natAbs, _*ℤ_};
 ghost use Rattle.std.specs.Orderings.{Decides};
 ghost use Rattle.std.specs.shelf.Lists.{All};
 ghost use Rattle.model.specs.Values.{parts-of};
-ghost use Rattle.model.specs.Weighing.{weighed as weighed-by};
+ghost use Rattle.model.specs.Weighing.{total, weighed as weighed-by};
 ghost use Rattle.preferences.specs.Constraints.{In-row-limit, Keeps, effective as effective-of};
 ghost use Rattle.preferences.specs.RowList.{row-at-front};
 ghost use Rattle.preferences.specs.Stored.{constraint-of};
@@ -60,11 +60,19 @@ impl Row {
         sum
     }
 
+    // The bound times the sum of all parts.
+    fn allowed(&self, weight: &Weight) -> i64
+        ensures value { λ r. ⌜ r ≡ constraint-of (now (self .entry)) .bound *ℤ pos (total (parts-of (now (weight .entry)))) ⌝ }
+        ensures size { λ r. ⌜ natAbs r ≤ 80000000000 ⌝ }
+    {
+        let total = weight.total() as i64;
+        i64::from(self.bound) * total
+    }
+
     // Whether the weight keeps the row.
     pub(crate) fn keeps(&self, weight: &Weight) -> bool
         ensures { λ r. ⌜ Decides r (Keeps (parts-of (now (weight .entry))) (constraint-of (now (self .entry)))) ⌝ }
     {
-        let total = weight.total() as i64;
-        self.weighed(weight) <= i64::from(self.bound) * total
+        self.weighed(weight) <= self.allowed(weight)
     }
 }

@@ -44,13 +44,13 @@ pub(super) fn keeps_list(dims: usize, numbers: &[i32], weight: &Weight) -> bool
     ensures { λ r. ⌜ r ≡ all-keep (parts-of (now (weight .entry))) (rows-in dims (now (numbers .entry))) ⌝ }
 {
     let width = dims + 1;
-    let mut rest = numbers;
-    while rest.len() >= width {
-        let (front, back) = rest.split_at(width);
+    let mut left = numbers;
+    while left.len() >= width {
+        let (front, back) = left.split_at(width);
         if !Row::read(dims, front).keeps(weight) {
             return false;
         }
-        rest = back;
+        left = back;
     }
     true
 }

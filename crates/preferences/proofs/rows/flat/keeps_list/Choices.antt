@@ -6,8 +6,8 @@ use Rattle.preferences.specs.Constraints.{In-row-limit, all-keep}
 use Rattle.preferences.specs.RowList.{rows-in}
 use Rattle.preferences.proofs.rows.flat.keeps_list.Given as given
 
-abbrev pub Inv-loop-rest : given.InvT-loop-rest
-Inv-loop-rest l = All In-row-limit (l .rest) × (all-keep (parts-of (l .weight)) (rows-in (l .dims) (l .rest)) ≡ all-keep (parts-of (l .weight)) (rows-in (l .dims) (l .entry .rest)))
+abbrev pub Inv-loop-left : given.InvT-loop-left
+Inv-loop-left l = All In-row-limit (l .left) × (all-keep (parts-of (l .weight)) (rows-in (l .dims) (l .left)) ≡ all-keep (parts-of (l .weight)) (rows-in (l .dims) (l .entry .left)))
 
-abbrev pub μ-loop-rest : given.MeasureT-loop-rest
-μ-loop-rest l = length (l .rest)
+abbrev pub μ-loop-left : given.MeasureT-loop-left
+μ-loop-left l = length (l .left)

@@ -31,29 +31,25 @@ pub returns-then-entries-self : need.returns-then-entries-self
 returns-then-entries-self c =
     judged-not-shown _ (constraints-of (c .args .self .now)) (entries-of (c .args .difference .now)) (c .args .multipliers .now) (λ h. c .if-entries-self .taken (ap length (c .entries-entries .ensures) ∙ h .0))
 
-pub returns-then-multipliers-len : need.returns-then-multipliers-len
-returns-then-multipliers-len c =
-    judged-not-shown _ (constraints-of (c .args .self .now)) (entries-of (c .args .difference .now)) (c .args .multipliers .now) (λ h. c .if-multipliers-len .taken (h .1 ∙ sym (c .len .ensures ∙ constraints-count (c .args .self .now))))
-
-pub none-negative-requires : need.none-negative-requires
-none-negative-requires c κs =
+pub none-negative-shown-requires : need.none-negative-shown-requires
+none-negative-shown-requires c κs =
     let range : All In-range (c .entries-entries .result .now) = rw (c .entries-entries .ensures) (entries-ranged (c .args .difference .now) .range) in
-    (omega (arith, c .as-slice .ensures .len, c .args .self .now .few), (omega (arith, c .as-slice .ensures .len), range))
+    (omega (arith, c .as-slice .ensures .len, c .args .self .now .few), (omega (arith, c .as-slice .ensures .len, constraints-count (c .args .self .now)), range))
 
-pub returns-then-none-negative : need.returns-then-none-negative
-returns-then-none-negative c =
+pub returns-then-shown : need.returns-then-shown
+returns-then-shown c =
     let self = c .args .self .now in
     let difference = entries-of (c .args .difference .now) in
-    let kept = same-kept _ _ _ difference (c .args .multipliers .now) (c .none-negative .result) (c .as-slice .ensures .value) (c .entries-entries .ensures) (c .none-negative .ensures) in
+    let kept = same-kept _ _ _ difference (c .args .multipliers .now) (c .none-negative-shown .result) (c .as-slice .ensures .value) (c .entries-entries .ensures) (c .none-negative-shown .ensures) in
     let width : length difference ≡ self .dims = sym (ap length (c .entries-entries .ensures)) ∙ c .if-entries-self .left in
     judged-shown (self .dims) (constraints-of self) difference (c .args .multipliers .now)
-    (width, c .if-multipliers-len .left ∙ c .len .ensures ∙ constraints-count self, λ i below. kept .0 (c .if-none-negative .taken) i (omega arith))
+    (width, c .if-multipliers .left ∙ c .multipliers .ensures, λ i below. kept .0 (c .if-shown .taken) i (omega arith))
 
-pub returns-else-none-negative : need.returns-else-none-negative
-returns-else-none-negative c =
+pub returns-else-shown : need.returns-else-shown
+returns-else-shown c =
     let self = c .args .self .now in
     let difference = entries-of (c .args .difference .now) in
-    let kept = same-kept _ _ _ difference (c .args .multipliers .now) (c .none-negative .result) (c .as-slice .ensures .value) (c .entries-entries .ensures) (c .none-negative .ensures) in
+    let kept = same-kept _ _ _ difference (c .args .multipliers .now) (c .none-negative-shown .result) (c .as-slice .ensures .value) (c .entries-entries .ensures) (c .none-negative-shown .ensures) in
     let width : length difference ≡ self .dims = sym (ap length (c .entries-entries .ensures)) ∙ c .if-entries-self .left in
     judged-not-shown (self .dims) (constraints-of self) difference (c .args .multipliers .now)
-    (λ h. not-from-decides (c .none-negative .result) kept (c .if-none-negative .left) (λ i below. h .2 i (omega arith)))
+    (λ h. not-from-decides (c .none-negative-shown .result) kept (c .if-shown .left) (λ i below. h .2 i (omega arith)))
