@@ -42,15 +42,17 @@ module _ (m : Meaning) (lawful : Lawful m) where
       let held = parts-proper weight in
       let proper : Proper (m .dims) parts = record { width = width; limits = subst (All In-limit) same (held .limits); some = rw (sym same) (held .some) } in
       let answer : said ≡ m .admits parts = says ∙ ap (m .admits) same in
-      let count : Figure-count (m .dims) = (omega (arith, weight .least, parts-count weight, ap length same), omega (arith, weight .most, parts-count weight, ap length same)) in
-      ( unopposed _ _ _ (λ wrong. wrong (count, width)) (unopposed _ _ _ (λ wrong. wrong (proper .limits, proper .some)) unopposed-end)
-      , ((λ h. lawful .sound parts proper (sym answer ∙ h)), (λ h. answer ∙ lawful .exact parts proper h)) )
+      let count : Figure-count (m .dims) = (omega (arith, weight .least, parts-count weight, ap length same), omega (arith, weight .most, parts-count weight, ap length same)) in (
+        unopposed _ _ _ (λ wrong. wrong (count, width)) (unopposed _ _ _ (λ wrong. wrong (proper .limits, proper .some)) unopposed-end),
+        ((λ h. lawful .sound parts proper (sym answer ∙ h)), (λ h. answer ∙ lawful .exact parts proper h)),
+      )
 
   pub difference-asked : (difference : Difference) (entries : List ℤ) (multipliers : List ℕ) (judgement : Judgement) → entries-of difference ≡ entries → length entries ≡ m .dims → length multipliers ≡ m .multipliers → All In-limit multipliers → judgement ≡ m .judged (entries-of difference) multipliers → Unopposed (difference-question m entries multipliers) × Judges m entries multipliers judgement
   difference-asked difference entries multipliers judgement same width count limits says =
       let held = entries-ranged difference in
       let ranged : Ranged (m .dims) entries = record { width = width; range = subst (All In-range) same (held .range) } in
       let answer : judgement ≡ m .judged entries multipliers = says ∙ ap (λ zs. m .judged zs multipliers) same in
-      let dims : Figure-count (m .dims) = (omega (arith, difference .least, entries-count difference, ap length same), omega (arith, difference .most, entries-count difference, ap length same)) in
-      ( unopposed _ _ _ (λ wrong. wrong (dims, width)) (unopposed _ _ _ (λ wrong. wrong count) (unopposed _ _ _ (λ wrong. wrong limits) (unopposed _ _ _ (λ wrong. wrong (ranged .range)) unopposed-end)))
-      , record { rule = answer; safe = λ h. lawful .safe entries multipliers ranged (record { count = count; limits = limits }) (sym answer ∙ h) } )
+      let dims : Figure-count (m .dims) = (omega (arith, difference .least, entries-count difference, ap length same), omega (arith, difference .most, entries-count difference, ap length same)) in (
+        unopposed _ _ _ (λ wrong. wrong (dims, width)) (unopposed _ _ _ (λ wrong. wrong count) (unopposed _ _ _ (λ wrong. wrong limits) (unopposed _ _ _ (λ wrong. wrong (ranged .range)) unopposed-end))),
+        record { rule = answer; safe = λ h. lawful .safe entries multipliers ranged (record { count = count; limits = limits }) (sym answer ∙ h) },
+      )

@@ -49,5 +49,5 @@ added s a b k m n s≤ a≤ b≤ m< n< room =
       product = subst (SFits w64) (sym factors) product-fits;
       fits = subst (SFits w64) (sym terms) sum-fits;
       value = ap back terms ∙ toZ-ofZ w64 (s +ℤ (a *ℤ b)) sum-fits;
-      size = size
+      size = size;
     }

@@ -56,5 +56,5 @@ pub entries-ranged : (difference : Difference) → Ranged (difference .count) (e
 entries-ranged difference =
     record {
       width = entries-count difference;
-      range = all-front In-range (difference .entries) (difference .count) (pos 0) (difference .range)
+      range = all-front In-range (difference .entries) (difference .count) (pos 0) (difference .range);
     }

@@ -21,7 +21,7 @@ rows-meaning d rows sample =
       sample = sample;
       admissible = Admissible d rows;
       admits = admits d rows;
-      judged = λ difference multipliers. cond (shows d rows difference multipliers) Judgement.Shown Judgement.NotShown
+      judged = λ difference multipliers. cond (shows d rows difference multipliers) Judgement.Shown Judgement.NotShown;
     }
 
 -- a sample that rows can be made with: a proper weight of d figures that is admissible under them

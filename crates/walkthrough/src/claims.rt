@@ -35,13 +35,21 @@ pub struct Finding {
 }
 
 // Computes a claim's difference and asks the preference about it.
-pub fn check<P: Preference>(heap: Global, preference: &P, sheets: &[PlainSheet], claim: Claim<'_>) -> Result<Finding, AllocError>
+pub fn check<P: Preference>(
+    heap: Global,
+    preference: &P,
+    sheets: &[PlainSheet],
+    claim: Claim<'_>,
+) -> Result<Finding, AllocError>
     requires { ⌜ length (now (claim .mixture)) ≤ 64 ⌝ }
     ensures { λ r. ⌜ made r (Found (P·Preference .meaning (now (preference .entry))) (map plain-figures (now (sheets .entry))) (claim .entry .target) (now (claim .entry .mixture)) (now (claim .entry .multipliers))) ⌝ }
 {
     let difference = difference(heap, sheets, claim.target, claim.mixture)?;
     let judgement = preference.ask_difference(difference.as_slice(), claim.multipliers);
-    Ok(Finding { difference, judgement })
+    Ok(Finding {
+        difference,
+        judgement,
+    })
 }
 
 // The sheet with a number; numbers count from 1.
@@ -101,7 +109,12 @@ fn entry_at(sheets: &[PlainSheet], target: u16, mixture: &[Share], index: usize)
 }
 
 // A claim's difference, figure by figure.
-fn difference(heap: Global, sheets: &[PlainSheet], target: u16, mixture: &[Share]) -> Result<Vec<i64>, AllocError>
+fn difference(
+    heap: Global,
+    sheets: &[PlainSheet],
+    target: u16,
+    mixture: &[Share],
+) -> Result<Vec<i64>, AllocError>
     requires { ⌜ length (now mixture) ≤ 64 ⌝ }
     ensures { λ r. ⌜ made r (λ entries. vec-items entries ≡ difference-of (map plain-figures (now (sheets .entry))) target (now (mixture .entry))) ⌝ }
 {

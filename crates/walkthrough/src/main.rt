@@ -1,4 +1,6 @@
 // Plays one task from beginning to end: a farm's preference, five tariff sheets of a barn, and a solver's claims about them, checked.
+ghost use Prim.Native.Nat.{_≤_};
+ghost use lib.ListN.{length};
 use crate::claims::Claim;
 use crate::claims::check;
 use crate::report::print_finding;
@@ -22,7 +24,10 @@ fn run(rt: &LibcRuntime) -> Result<(), AnyError> {
     let Ok(preference) = Rows::new(rt.alloc(), 2, &[-1, 1, 0], &[1, 1]) else {
         return Err("the preference was not made".into());
     };
-    println!(rt, "a preference over 2 figures: premium counts at least as much as own share")?;
+    println!(
+        rt,
+        "a preference over 2 figures: premium counts at least as much as own share"
+    )?;
     let mut sheets = Vec::new(rt.alloc());
     for figures in &SHEETS {
         if let Some(sheet) = make_sheet(rt, figures)? {
@@ -51,22 +56,44 @@ fn make_sheet(rt: &LibcRuntime, figures: &[u32]) -> Result<Option<PlainSheet>, A
     }
 }
 
+fn pair(variant: u16, share: u32) -> Share {
+    Share { variant, share }
+}
+
 // The solver's three claims, and the second one again with other multipliers.
-fn check_claims(rt: &LibcRuntime, preference: &Rows, sheets: &[PlainSheet]) -> Result<(), AnyError> {
-    let by_two = [Share { variant: 2, share: 1 }];
-    let by_four = [Share { variant: 4, share: 1 }];
-    let by_both = [Share { variant: 1, share: 1 }, Share { variant: 4, share: 1 }];
-    let claims = [
-        Claim { target: 3, mixture: &by_two, multipliers: &[0] },
-        Claim { target: 5, mixture: &by_four, multipliers: &[6] },
-        Claim { target: 2, mixture: &by_both, multipliers: &[0] },
-        Claim { target: 5, mixture: &by_four, multipliers: &[5] },
-        Claim { target: 5, mixture: &by_four, multipliers: &[16] },
-        Claim { target: 5, mixture: &by_four, multipliers: &[17] },
-    ];
-    for claim in claims {
-        let finding = check(rt.alloc(), preference, sheets, claim)?;
-        print_finding(rt, claim, &finding)?;
-    }
+fn check_claims(
+    rt: &LibcRuntime,
+    preference: &Rows,
+    sheets: &[PlainSheet],
+) -> Result<(), AnyError> {
+    let by_two = [pair(2, 1)];
+    let by_four = [pair(4, 1)];
+    let by_one_and_four = [pair(1, 1), pair(4, 1)];
+    check_claim(rt, preference, sheets, 3, &by_two, 0)?;
+    check_claim(rt, preference, sheets, 5, &by_four, 6)?;
+    check_claim(rt, preference, sheets, 2, &by_one_and_four, 0)?;
+    check_claim(rt, preference, sheets, 5, &by_four, 5)?;
+    check_claim(rt, preference, sheets, 5, &by_four, 16)?;
+    check_claim(rt, preference, sheets, 5, &by_four, 17)
+}
+
+// Checks one claim and prints what was found.
+fn check_claim(
+    rt: &LibcRuntime,
+    preference: &Rows,
+    sheets: &[PlainSheet],
+    target: u16,
+    mixture: &[Share],
+    multiplier: u32,
+) -> Result<(), AnyError>
+    requires { ⌜ length (now mixture) ≤ 64 ⌝ }
+{
+    let claim = Claim {
+        target,
+        mixture,
+        multipliers: &[multiplier],
+    };
+    let finding = check(rt.alloc(), preference, sheets, claim)?;
+    print_finding(rt, claim, &finding)?;
     Ok(())
 }

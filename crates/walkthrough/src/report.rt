@@ -39,9 +39,15 @@ pub fn print_finding(rt: &LibcRuntime, claim: Claim<'_>, finding: &Finding) -> i
     println!(rt, "")?;
     print_difference(rt, finding.difference.as_slice())?;
     match finding.judgement {
-        Ok(Judgement::Shown) => println!(rt, "  shown: under every admissible weight a named sheet scores at most what sheet {target} scores"),
+        Ok(Judgement::Shown) => println!(
+            rt,
+            "  shown: under every admissible weight a named sheet scores at most what sheet {target} scores"
+        ),
         Ok(Judgement::NotShown) => println!(rt, "  not shown: these multipliers prove nothing"),
-        Ok(Judgement::OutOfRange) => println!(rt, "  out of range: these multipliers prove nothing"),
+        Ok(Judgement::OutOfRange) => println!(
+            rt,
+            "  out of range: these multipliers prove nothing"
+        ),
         Err(refusal) => {
             let number = refusal.number();
             println!(rt, "  refused {number}")

@@ -48,7 +48,11 @@ pub impl Preference for Rows as RowsPreference {
             return Judgement::NotShown;
         }
         let shown = none_negative(self.rows.as_slice(), entries, multipliers);
-        if shown { Judgement::Shown } else { Judgement::NotShown }
+        if shown {
+            Judgement::Shown
+        } else {
+            Judgement::NotShown
+        }
     }
 }
 

@@ -18,7 +18,12 @@ use std::alloc::Global;
 
 impl Rows {
     // Rows over `dims` figures, given as one flat list: the coefficients of a row and then its bound, row after row. Every ground of refusal is checked before memory is asked for.
-    pub fn new(heap: Global, dims: usize, numbers: &[i32], sample: &[u32]) -> Result<Rows, MakeError>
+    pub fn new(
+        heap: Global,
+        dims: usize,
+        numbers: &[i32],
+        sample: &[u32],
+    ) -> Result<Rows, MakeError>
         ensures { λ r. ⌜ Made (rows-grounds dims (now (numbers .entry)) (now (sample .entry))) r (Holds dims (now (numbers .entry)) (now (sample .entry))) ⌝ }
     {
         if dims < 1 || dims > 8 {

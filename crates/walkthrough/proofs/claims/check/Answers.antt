@@ -13,5 +13,5 @@ returns g c =
     let made = c .in-Continue-difference .ensures tt in
     record {
       entries = made;
-      answer = subst (λ zs. Checked (difference-question m zs multipliers) (c .ask-difference-judgement .result) (Judges m zs multipliers)) (c .as-slice .ensures .value ∙ made) (c .ask-difference-judgement .ensures)
+      answer = subst (λ zs. Checked (difference-question m zs multipliers) (c .ask-difference-judgement .result) (Judges m zs multipliers)) (c .as-slice .ensures .value ∙ made) (c .ask-difference-judgement .ensures);
     }

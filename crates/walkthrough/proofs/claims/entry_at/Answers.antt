@@ -44,5 +44,5 @@ pub returns : need.returns
 returns c =
     record {
       value = c .loop-pair .inv .0 ∙ ap (λ xs. difference-at (map plain-figures (c .args .sheets .now)) (c .args .target) xs (c .args .index)) (take-all (c .loop-pair .pair-index) (c .args .mixture .now) (c .loop-pair-test .left));
-      size = omega (arith, c .loop-pair .inv .1, c .pre)
+      size = omega (arith, c .loop-pair .inv .1, c .pre);
     }

@@ -10,5 +10,5 @@ returns-in-Some c =
     let sheet = c .in-Some .sheet .now in
     record {
       value = c .figure .ensures ∙ sym (ap (λ xs. getD xs (c .args .index) 0) (c .in-Some .ensures tt));
-      limit = omega (arith, c .figure .ensures, limit-at (plain-figures sheet) (figures-limits (sheet .figures)) (c .args .index))
+      limit = omega (arith, c .figure .ensures, limit-at (plain-figures sheet) (figures-limits (sheet .figures)) (c .args .index));
     }

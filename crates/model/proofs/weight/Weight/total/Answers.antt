@@ -36,5 +36,5 @@ returns c =
     let parts = c .parts-parts .result .now in
     record {
       value = c .loop-part .inv .0 ∙ ap total (take-all (c .loop-part .part-index) parts (c .loop-part-test .left) ∙ c .parts-parts .ensures);
-      bound = omega (arith, few (c .args .self .now) parts (c .parts-parts .ensures))
+      bound = omega (arith, few (c .args .self .now) parts (c .parts-parts .ensures));
     }

@@ -15,7 +15,7 @@ returns-then-index-self c =
     let size : natAbs (getD (row .coefficients) (c .args .index) (pos 0)) ≤ 10000 = row .limits (c .args .index) (c .if-index-self .taken) in
     record {
       value = let same : _ ≡ getD (row .coefficients) (c .args .index) (pos 0) = omega (arith, ints) in same ∙ sym (getD-take (row .count) (row .coefficients) (c .args .index) (pos 0) (c .if-index-self .taken));
-      size = omega (arith, ints)
+      size = omega (arith, ints);
     }
 
 pub returns-else-index-self : need.returns-else-index-self
@@ -23,5 +23,5 @@ returns-else-index-self c =
     let row = c .args .self .now in
     record {
       value = sym (getD-past (take (row .count) (row .coefficients)) (c .args .index) (pos 0) (simp length-take (omega arith)));
-      size = omega arith
+      size = omega arith;
     }

@@ -50,5 +50,5 @@ returns c =
     let coefficients = constraint-of (c .args .self .now) .coefficients in
     record {
       value = c .loop-index .inv .0 ∙ ap (λ w. weighed w coefficients) (take-all (c .loop-index .index) parts (c .loop-index-test .left) ∙ c .parts-parts .ensures);
-      size = omega (arith, c .loop-index .inv .1, few (c .args .weight .now) parts (c .parts-parts .ensures))
+      size = omega (arith, c .loop-index .inv .1, few (c .args .weight .now) parts (c .parts-parts .ensures));
     }

@@ -49,5 +49,5 @@ returns c =
     let place = c .loop-place .place in
     record {
       value = c .loop-place .inv .0 ∙ ap (λ xs. lift xs (take place (c .args .multipliers .now)) (c .args .index)) (take-all place (map constraint-of rows) (simp length-map (c .loop-place-test .left))) ∙ ap (λ ms. lift (map constraint-of rows) ms (c .args .index)) (take-all place (c .args .multipliers .now) (omega (arith, c .pre .1)));
-      size = omega (arith, c .loop-place .inv .1, c .pre .0)
+      size = omega (arith, c .loop-place .inv .1, c .pre .0);
     }

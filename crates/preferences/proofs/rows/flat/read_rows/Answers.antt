@@ -22,9 +22,10 @@ loop-rest-again c =
     let back = c .split-at .result .1 .now in
     let left = rows-in (c .args .dims) back in
     let cut = cut-more (c .args .dims) (c .loop-rest .rest .now) (c .split-at .result .0 .now) back (constraint-of row) (c .loop-rest-test .taken) (c .split-at .ensures .front) (c .split-at .ensures .back) (c .read .ensures) in
-    let pushed = ap (map constraint-of) (c .in-Continue-push .ensures tt .items) ∙ map-push constraint-of (vec-items (c .loop-rest .rows)) row in
-    ( rw (c .split-at .ensures .back) (all-drop In-row-limit _ (c .loop-rest .rest .now) (c .loop-rest .inv .0))
-    , ap (λ xs. xs ++ left) pushed ∙ append-assoc before (constraint-of row ∷ []) left ∙ ap (λ xs. before ++ xs) (sym cut) ∙ c .loop-rest .inv .1 )
+    let pushed = ap (map constraint-of) (c .in-Continue-push .ensures tt .items) ∙ map-push constraint-of (vec-items (c .loop-rest .rows)) row in (
+      rw (c .split-at .ensures .back) (all-drop In-row-limit _ (c .loop-rest .rest .now) (c .loop-rest .inv .0)),
+      ap (λ xs. xs ++ left) pushed ∙ append-assoc before (constraint-of row ∷ []) left ∙ ap (λ xs. before ++ xs) (sym cut) ∙ c .loop-rest .inv .1,
+    )
 
 pub returns : need.returns
 returns c =
