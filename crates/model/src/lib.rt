@@ -18,6 +18,8 @@ pub use difference::Difference;
 pub use figures::Figures;
 pub use figures::FiguresVariant;
 pub use judgement::Judgement;
+pub use judgement::JudgementDebug;
+pub use judgement::JudgementPartialEq;
 pub use lists::padded;
 pub use make_error::MakeError;
 pub use make_error::MakeErrorFromAlloc;

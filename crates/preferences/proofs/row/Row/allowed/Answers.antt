@@ -1,11 +1,11 @@
 use Prim.Native.Nat.{_*_, _≤_}
-use mathlib.Core.Path.{_≡_, ap, _∙_}
+use mathlib.Core.Path.{_≡_, sym, ap, _∙_, subst}
 use native.Mathlib.Omega.{arith}
 use borrow.Author.Differences.{ints}
 use lib.Dec.{lit<}
 use lib.IntN.{pos, natAbs, _*ℤ_}
 use mir.Syntax.{w64}
-use mir.Val.{toZ, ofZ}
+use mir.Val.{SFits, toZ, ofZ}
 use Rattle.model.specs.Values.{parts-of}
 use Rattle.model.specs.Weighing.{total}
 use Rattle.model.proofs.Machine.{fits, same-back, product-size}
@@ -23,7 +23,7 @@ size : (c : need.After-from) → natAbs (c .args .self .now .bound *ℤ pos (tot
 size c = product-size (c .args .self .now .bound) _ 10000 8000000 (c .args .self .now .bounded) (omega (arith, c .total-total .ensures .value))
 
 pub mul-result : need.mul-result
-mul-result c = rw (product c) (fits _ (10000 * 8000000) (size c) (lit< tt))
+mul-result c = subst (SFits w64) (sym (product c)) (fits _ (10000 * 8000000) (size c) (lit< tt))
 
 pub returns : need.returns
 returns c =
