@@ -35,7 +35,7 @@ pub struct Finding {
 }
 
 // Computes a claim's difference and asks the preference about it.
-pub fn check<P: Preference>(
+pub(crate) fn check<P: Preference>(
     heap: Global,
     preference: &P,
     sheets: &[PlainSheet],

@@ -26,7 +26,7 @@ fn run(rt: &LibcRuntime) -> Result<(), AnyError> {
     };
     println!(
         rt,
-        "a preference over 2 figures: premium counts at least as much as own share"
+        "a preference over premium and own share: row -1 1 with bound 0, sample 1 1, so premium counts at least as much"
     )?;
     let mut sheets = Vec::new(rt.alloc());
     for figures in &SHEETS {

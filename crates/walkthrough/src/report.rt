@@ -5,7 +5,7 @@ use model::Share;
 use std::io;
 
 // Each number after a space.
-pub fn print_numbers(rt: &LibcRuntime, numbers: &[u32]) -> io::Result<()> {
+pub(crate) fn print_numbers(rt: &LibcRuntime, numbers: &[u32]) -> io::Result<()> {
     for number in numbers {
         print!(rt, " {number}")?;
     }
@@ -30,7 +30,11 @@ fn print_difference(rt: &LibcRuntime, difference: &[i64]) -> io::Result<()> {
 }
 
 // The claim, its difference, and what the preference says of it.
-pub fn print_finding(rt: &LibcRuntime, claim: Claim<'_>, finding: &Finding) -> io::Result<()> {
+pub(crate) fn print_finding(
+    rt: &LibcRuntime,
+    claim: Claim<'_>,
+    finding: &Finding,
+) -> io::Result<()> {
     let target = claim.target;
     print!(rt, "a claim against sheet {target} by")?;
     print_mixture(rt, claim.mixture)?;
@@ -39,15 +43,9 @@ pub fn print_finding(rt: &LibcRuntime, claim: Claim<'_>, finding: &Finding) -> i
     println!(rt, "")?;
     print_difference(rt, finding.difference.as_slice())?;
     match finding.judgement {
-        Ok(Judgement::Shown) => println!(
-            rt,
-            "  shown: under every admissible weight a named sheet scores at most what sheet {target} scores"
-        ),
-        Ok(Judgement::NotShown) => println!(rt, "  not shown: these multipliers prove nothing"),
-        Ok(Judgement::OutOfRange) => println!(
-            rt,
-            "  out of range: these multipliers prove nothing"
-        ),
+        Ok(Judgement::Shown) => println!(rt, "  shown: no admissible weight makes it negative"),
+        Ok(Judgement::NotShown) => println!(rt, "  not shown: these multipliers show nothing"),
+        Ok(Judgement::OutOfRange) => println!(rt, "  out of range: these multipliers show nothing"),
         Err(refusal) => {
             let number = refusal.number();
             println!(rt, "  refused {number}")
