@@ -31,6 +31,10 @@ product-size (negsuc a) (negsuc b) m n h k = mul-le-mul h k
 pub sum-size : (a b : ℤ) (m n : ℕ) → natAbs a ≤ m → natAbs b ≤ n → natAbs (a +ℤ b) ≤ m + n
 sum-size a b m n h k = omega (arith, ints)
 
+-- a sum and a product of equal terms
+pub same-sum : (s t a b e f : ℤ) → s ≡ t → a ≡ b → e ≡ f → s +ℤ (a *ℤ e) ≡ t +ℤ (b *ℤ f)
+same-sum s t a b e f p q r = cc
+
 -- a product added to a sum that has room for it: what the machine computes is exact
 pub record Added (s a b : ℤ) (limit : ℕ) : Type 0 where
   pub product : SFits w64 (toZ w64 (ofZ w64 a) *ℤ toZ w64 (ofZ w64 b))

@@ -1,17 +1,17 @@
 -- What the invariants of figures, weights and differences say of the lists that they stand for.
-use Prim.Native.Nat.{ℕ, _*_, _≤_, _<_, min}
-use mathlib.Core.Path.{_≡_, _∙_, subst, sym}
-use mathlib.Core.Logic.{inl, inr, ⊎-elim}
+use Prim.Native.Nat.{ℕ, _*_, _≤_}
+use mathlib.Core.Path.{_≡_, _∙_, ap, subst, sym}
+use mathlib.Core.Logic.{⊎-elim}
 use mathlib.Core.List.{List}
 use native.Mathlib.Nat.{mul-le-mul}
 use native.Mathlib.Omega.{arith}
-use lib.IntN.{ℤ, pos, natAbs}
+use lib.IntN.{pos}
 use lib.ListN.{length, getD, take, length-take}
 use Rattle.std.specs.shelf.Lists.{All}
 use Rattle.std.proofs.shelf.Elements.{all-getD}
 use Rattle.std.proofs.shelf.Lists.{getD-past}
 use Rattle.std.proofs.shelf.Tests.{cases-lt}
-use Rattle.model.specs.Limits.{Figure-count, In-limit, In-range, Proper, Ranged}
+use Rattle.model.specs.Limits.{In-limit, In-range, Proper, Ranged}
 use Rattle.model.specs.Values.{figures-of, parts-of, entries-of}
 use Rattle.model.specs.declared.difference.Difference.{Difference}
 use Rattle.model.specs.declared.figures.Figures.{Figures}
@@ -40,11 +40,15 @@ figures-limits figures = all-front In-limit (figures .values) (figures .count) 0
 pub parts-count : (weight : Weight) → length (parts-of weight) ≡ weight .count
 parts-count weight = front-count (weight .count) (weight .parts) (weight .stored)
 
-pub parts-few : (weight : Weight) → length (parts-of weight) ≤ 8
-parts-few weight = omega (arith, parts-count weight, weight .most)
+-- parts that are lent: at most eight, each within the limit at any place
+pub lent-few : (weight : Weight) (parts : List ℕ) → parts ≡ parts-of weight → length parts ≤ 8
+lent-few weight parts same = omega (arith, ap length same, parts-count weight, weight .most)
 
 pub parts-limits : (weight : Weight) → All In-limit (parts-of weight)
 parts-limits weight = all-front In-limit (weight .parts) (weight .count) 0 (weight .limits)
+
+pub lent-limit : (weight : Weight) (parts : List ℕ) → parts ≡ parts-of weight → (k : ℕ) → getD parts k 0 ≤ 1000000
+lent-limit weight parts same k = limit-at parts (subst (All In-limit) (sym same) (parts-limits weight)) k
 
 pub parts-proper : (weight : Weight) → Proper (weight .count) (parts-of weight)
 parts-proper weight = record { width = parts-count weight; limits = parts-limits weight; some = weight .some }

@@ -1,8 +1,8 @@
 -- Which ground of a table refuses a call.
 use Prim.Native.Nat.{ℕ, _≤_}
 use native.Mathlib.Nat.{le-refl}
-use mathlib.Core.Path.{_≡_, refl, sym, subst}
-use mathlib.Core.Logic.{_⊎_, inl, inr}
+use mathlib.Core.Path.{refl, sym, subst}
+use mathlib.Core.Logic.{inl, inr}
 use Rattle.model.specs.Refusals.{place, line, end, Refuses, Unopposed}
 use Rattle.model.specs.declared.refusal.Refusal.{Refusal}
 

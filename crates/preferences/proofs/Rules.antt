@@ -1,22 +1,21 @@
 -- The tests of rows decide what they are to decide, and rows keep the laws of a preference.
-use Prim.Native.Nat.{ℕ, zero, suc, _<_}
-use mathlib.Core.Bool.{Bool, true, false, cond, _&&_}
-use mathlib.Core.List.{List, [], _∷_}
-use mathlib.Core.Path.{_≡_, refl, sym, ap, _∙_, subst}
+use Prim.Native.Nat.{ℕ, _<_}
+use mathlib.Core.Bool.{Bool, true, false, cond}
+use mathlib.Core.List.{List}
+use mathlib.Core.Path.{_≡_, refl, sym}
 use native.Mathlib.Omega.{arith}
 use borrow.Author.Differences.{ints}
-use lib.Dec.{T, eqb}
+use lib.Dec.{T}
 use lib.IntN.{ℤ, pos, negsuc, _+ℤ_}
 use lib.ListN.{length, getD, replicate}
-use lib.Signed.{leZ, nonNeg, _≤ℤ_}
+use lib.Signed.{nonNeg, _≤ℤ_}
 use Rattle.std.specs.Orderings.{Decides}
 use Rattle.std.specs.shelf.Lists.{All}
 use Rattle.std.proofs.shelf.Elements.{all-getD}
 use Rattle.std.proofs.shelf.Lists.{length-replicate}
 use Rattle.std.proofs.shelf.Tests.{cond-true, cond-false}
 use Rattle.std.proofs.shelf.Ways.{decides-and, decides-eqb, decides-by-and, decides-below-and, decides-like, same-from-decides}
-use Rattle.model.specs.Limits.{Proper, Ranged}
-use Rattle.model.specs.Meaning.{Meaning, Lawful}
+use Rattle.model.specs.Meaning.{Lawful}
 use Rattle.model.specs.Weighing.{total, weighed}
 use Rattle.model.specs.declared.judgement.Judgement.{Judgement}
 use Rattle.model.proofs.Each.{decides-le, decides-yes, decides-no}

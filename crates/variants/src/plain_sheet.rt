@@ -1,7 +1,6 @@
 ghost use mathlib.Core.Path.{_≡_};
 ghost use Rattle.model.specs.Limits.{figures-grounds};
 ghost use Rattle.model.specs.Refusals.{Checked};
-ghost use Rattle.model.specs.Values.{figures-of};
 ghost use Rattle.model.specs.Variants.{no-greater};
 ghost use Rattle.variants.specs.Sheets.{plain-figures};
 use model::Figures;

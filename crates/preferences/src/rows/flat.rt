@@ -1,13 +1,12 @@
 ghost use mathlib.Core.Path.{_≡_};
 ghost use mathlib.Core.List.{map};
 ghost use Prim.Native.Nat.{_≤_};
-ghost use lib.ListN.{length};
-ghost use Rattle.std.specs.Of.Vec.{vec-items, vec-len};
+ghost use Rattle.std.specs.Of.Vec.{vec-items};
 ghost use Rattle.std.specs.Orderings.{Decides};
 ghost use Rattle.std.specs.Vec.{made};
 ghost use Rattle.std.specs.shelf.Lists.{All};
 ghost use Rattle.model.specs.Values.{parts-of};
-ghost use Rattle.preferences.specs.Constraints.{In-row-limit, Keeps, all-keep};
+ghost use Rattle.preferences.specs.Constraints.{In-row-limit, all-keep};
 ghost use Rattle.preferences.specs.RowList.{Row-list, rows-in};
 ghost use Rattle.preferences.specs.Stored.{constraint-of};
 use crate::row::Row;

@@ -1,5 +1,4 @@
 use native.Mathlib.Omega.{arith}
-use borrow.Author.Needs.{needs}
 use Rattle.std.proofs.shelf.Elements.{all-more}
 use Rattle.model.specs.Limits.{In-limit}
 use Rattle.model.proofs.Each.{stops, ends}

@@ -1,9 +1,6 @@
-use mathlib.Core.List.{map}
-use mathlib.Core.Path.{_≡_, sym, ap, _∙_, subst}
-use Rattle.model.specs.Claims.{difference}
+use mathlib.Core.Path.{_∙_, subst}
 use Rattle.model.specs.Questions.{difference-question, Judges}
 use Rattle.model.specs.Refusals.{Checked}
-use Rattle.variants.specs.Sheets.{plain-figures}
 use Rattle.walkthrough.proofs.claims.check.Needs as need
 
 pub returns : need.returns

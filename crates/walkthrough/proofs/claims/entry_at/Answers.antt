@@ -1,16 +1,16 @@
-use Prim.Native.Nat.{ℕ, _+_, _*_, _≤_}
-use mathlib.Core.List.{List, map}
+use Prim.Native.Nat.{_+_, _*_, _≤_}
+use mathlib.Core.List.{map}
 use mathlib.Core.Path.{_≡_, refl, sym, ap, _∙_}
 use native.Mathlib.Omega.{arith}
 use borrow.Author.Needs.{needs}
 use lib.Dec.{lit<}
-use lib.IntN.{ℤ, pos, natAbs, _+ℤ_, _*ℤ_}
-use lib.ListN.{length, getD, take}
+use lib.IntN.{ℤ, natAbs}
+use lib.ListN.{getD}
 use mir.Syntax.{w32}
 use mir.Val.{Fits}
 use Rattle.std.proofs.shelf.Lists.{take-all}
 use Rattle.model.specs.Claims.{difference-at}
-use Rattle.model.proofs.Machine.{Added, added}
+use Rattle.model.proofs.Machine.{Added, added, same-sum}
 use Rattle.model.proofs.Mixtures.{difference-at-more}
 use Rattle.variants.specs.Sheets.{plain-figures}
 use Rattle.walkthrough.proofs.claims.entry_at.Needs as need
@@ -35,10 +35,7 @@ pub loop-pair-again : need.loop-pair-again
 loop-pair-again c =
     let more = difference-at-more (map plain-figures (c .args .sheets .now)) (c .args .target) (c .args .mixture .now) (c .loop-pair .pair-index) (c .args .index) (record { variant = 0; share = 0 }) (c .loop-pair-test .taken) in
     let next = step c _ (c .loop-pair .sum-is) (c .loop-pair .inv .1) in
-    (next .value ∙ joined _ _ _ _ _ _ (c .loop-pair .inv .0) (c .from .ensures) (c .less-at .ensures .value) ∙ sym more, rw (next .value) (omega (arith, next .size)))
-  where
-    joined : (s t a b e f : ℤ) → s ≡ t → a ≡ b → e ≡ f → s +ℤ (a *ℤ e) ≡ t +ℤ (b *ℤ f)
-    joined s t a b e f p q r = cc
+    (next .value ∙ same-sum _ _ _ _ _ _ (c .loop-pair .inv .0) (c .from .ensures) (c .less-at .ensures .value) ∙ sym more, rw (next .value) (omega (arith, next .size)))
 
 pub returns : need.returns
 returns c =

@@ -1,33 +1,23 @@
-use Prim.Native.Nat.{ℕ, _+_, _*_, _≤_}
-use mathlib.Core.List.{List}
+use Prim.Native.Nat.{_+_, _*_, _≤_}
 use mathlib.Core.Path.{_≡_, refl, ap, _∙_}
 use native.Mathlib.Omega.{arith}
 use lib.Dec.{lit<}
 use lib.IntN.{ℤ, natAbs}
-use lib.ListN.{length}
 use Rattle.std.proofs.shelf.Lists.{take-all}
-use Rattle.std.specs.shelf.Lists.{All}
-use Rattle.model.specs.Limits.{In-limit}
-use Rattle.model.specs.Values.{parts-of}
 use Rattle.model.specs.Weighing.{weighed}
-use Rattle.model.specs.declared.weight.Weight.{Weight}
 use Rattle.model.proofs.Machine.{Added, added}
-use Rattle.model.proofs.Stored.{limit-at, parts-limits, parts-few}
+use Rattle.model.proofs.Stored.{lent-few, lent-limit}
 use Rattle.model.proofs.Sums.{weighed-more}
 use Rattle.preferences.specs.Stored.{constraint-of}
 use Rattle.preferences.proofs.row.Row.weighed.Needs as need
-
-few : (weight : Weight) (parts : List ℕ) → parts ≡ parts-of weight → length parts ≤ 8
-few weight parts same = omega (arith, ap length same, parts-few weight)
 
 -- one product more
 step : (c : need.After-coefficient) (sum : ℤ) → sum ≡ c .loop-index .sum → natAbs sum ≤ 10000000000 * c .loop-index .index → Added sum (c .from .result) (c .coefficient .result) (10000000000 * c .loop-index .index + 1000000 * 10000)
 step c sum is size =
     let parts = c .parts-parts .result .now in
-    let limits : All In-limit parts = rw (c .parts-parts .ensures) (parts-limits (c .args .weight .now)) in
-    let part : natAbs (c .from .result) ≤ 1000000 = rw (c .from .ensures) (limit-at parts limits (c .loop-index .index)) in
+    let part : natAbs (c .from .result) ≤ 1000000 = rw (c .from .ensures) (lent-limit (c .args .weight .now) parts (c .parts-parts .ensures) (c .loop-index .index)) in
     added sum (c .from .result) (c .coefficient .result) (10000000000 * c .loop-index .index) 1000000 10000 size part (c .coefficient .ensures .size) (lit< tt) (lit< tt)
-    (omega (arith, few (c .args .weight .now) parts (c .parts-parts .ensures)))
+    (omega (arith, lent-few (c .args .weight .now) parts (c .parts-parts .ensures)))
 
 pub mul-sum : need.mul-sum
 mul-sum c = step c _ (c .loop-index .sum-is) (c .loop-index .inv .1) .product
@@ -50,5 +40,5 @@ returns c =
     let coefficients = constraint-of (c .args .self .now) .coefficients in
     record {
       value = c .loop-index .inv .0 ∙ ap (λ w. weighed w coefficients) (take-all (c .loop-index .index) parts (c .loop-index-test .left) ∙ c .parts-parts .ensures);
-      size = omega (arith, c .loop-index .inv .1, few (c .args .weight .now) parts (c .parts-parts .ensures));
+      size = omega (arith, c .loop-index .inv .1, lent-few (c .args .weight .now) parts (c .parts-parts .ensures));
     }

@@ -1,9 +1,8 @@
-use mathlib.Core.Path.{_≡_, sym, ap, _∙_}
+use mathlib.Core.Path.{sym, ap, _∙_}
 use native.Mathlib.Omega.{arith}
-use borrow.Author.Needs.{needs}
 use lib.ListN.{length}
 use Rattle.std.proofs.shelf.Lists.{length-map}
-use Rattle.std.specs.Of.Vec.{vec-items, vec-len}
+use Rattle.std.specs.Of.Vec.{vec-items}
 use Rattle.preferences.specs.RowList.{Row-list}
 use Rattle.preferences.specs.Stored.{constraint-of}
 use Rattle.preferences.proofs.Lists.{rows-in-count}

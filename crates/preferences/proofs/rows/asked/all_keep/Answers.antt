@@ -1,10 +1,7 @@
-use Prim.Native.Nat.{ℕ, _<_}
-use mathlib.Core.List.{List, map}
-use mathlib.Core.Path.{_≡_, sym, subst}
-use native.Mathlib.Omega.{arith}
-use borrow.Author.Needs.{needs}
-use borrow.Author.Tests.{clash}
-use lib.ListN.{length, getD}
+use Prim.Native.Nat.{_<_}
+use mathlib.Core.List.{map}
+use mathlib.Core.Path.{sym, subst}
+use lib.ListN.{length}
 use Rattle.std.proofs.shelf.Elements.{all-more}
 use Rattle.std.proofs.shelf.Lists.{length-map}
 use Rattle.std.proofs.shelf.Ways.{not-from-decides}

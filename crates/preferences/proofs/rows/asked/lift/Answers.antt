@@ -1,13 +1,13 @@
-use Prim.Native.Nat.{ℕ, _+_, _*_, _≤_, _<_}
-use mathlib.Core.List.{List, map}
+use Prim.Native.Nat.{_+_, _*_, _≤_, _<_}
+use mathlib.Core.List.{map}
 use mathlib.Core.Path.{_≡_, refl, sym, ap, _∙_}
 use native.Mathlib.Omega.{arith}
 use lib.Dec.{lit<}
-use lib.IntN.{ℤ, pos, natAbs, _+ℤ_, _*ℤ_}
+use lib.IntN.{ℤ, natAbs}
 use lib.ListN.{length, getD, take}
 use Rattle.std.proofs.shelf.Lists.{length-map, take-all}
 use Rattle.model.proofs.Each.{read-mapped}
-use Rattle.model.proofs.Machine.{Added, added}
+use Rattle.model.proofs.Machine.{Added, added, same-sum}
 use Rattle.preferences.specs.Constraints.{effective, lift}
 use Rattle.preferences.specs.Stored.{constraint-of}
 use Rattle.preferences.proofs.Lists.{lift-more}
@@ -38,10 +38,7 @@ loop-place-again c =
     let more = lift-more (map constraint-of rows) (c .args .multipliers .now) place (c .args .index) (constraint-of row) within (omega (arith, c .pre .1)) in
     let factor : effective (getD (map constraint-of rows) place (constraint-of row)) (c .args .index) ≡ effective (constraint-of row) (c .args .index) = ap (λ r. effective r (c .args .index)) read in
     let next = step c _ (c .loop-place .sum-is) (c .loop-place .inv .1) in
-    (next .value ∙ joined _ _ _ _ _ _ (c .loop-place .inv .0) (c .from .ensures) (c .effective .ensures .value ∙ sym factor) ∙ sym more, rw (next .value) (omega (arith, next .size)))
-  where
-    joined : (s t a b e f : ℤ) → s ≡ t → a ≡ b → e ≡ f → s +ℤ (a *ℤ e) ≡ t +ℤ (b *ℤ f)
-    joined s t a b e f p q r = cc
+    (next .value ∙ same-sum _ _ _ _ _ _ (c .loop-place .inv .0) (c .from .ensures) (c .effective .ensures .value ∙ sym factor) ∙ sym more, rw (next .value) (omega (arith, next .size)))
 
 pub returns : need.returns
 returns c =

@@ -1,5 +1,5 @@
-use mathlib.Core.List.{List, map, _++_, _∷_, []}
-use mathlib.Core.Path.{_≡_, sym, ap, _∙_}
+use mathlib.Core.List.{map, _++_, _∷_, []}
+use mathlib.Core.Path.{sym, ap, _∙_}
 use native.Mathlib.Omega.{arith}
 use Rattle.std.proofs.shelf.Elements.{all-drop}
 use Rattle.std.proofs.shelf.Lists.{append-assoc, append-nil, map-push}

@@ -1,11 +1,8 @@
 use Prim.Native.Nat.{_<_}
-use mathlib.Core.Path.{_≡_, sym, ap, _∙_, subst}
-use native.Mathlib.Omega.{arith}
+use mathlib.Core.Path.{sym, ap, _∙_, subst}
 use borrow.Author.Tests.{both-ways}
-use lib.ListN.{length}
 use Rattle.std.specs.shelf.Lists.{All}
 use Rattle.model.specs.Limits.{In-limit, Proper}
-use Rattle.model.specs.Values.{parts-of}
 use Rattle.model.specs.Weighing.{total}
 use Rattle.model.proofs.Asked.{proper-made}
 use Rattle.model.proofs.Stored.{parts-limits}

@@ -1,8 +1,6 @@
 use mathlib.Core.Bool.{_&&_}
 use mathlib.Core.List.{map}
 use mathlib.Core.Path.{_≡_, sym, ap, _∙_, subst}
-use native.Mathlib.Omega.{arith}
-use lib.Dec.{eqb}
 use lib.ListN.{length}
 use Rattle.std.proofs.shelf.Tests.{eq-eqb}
 use Rattle.std.proofs.shelf.Ways.{same-from-decides}
