@@ -68,8 +68,8 @@ rows-lawful d rows sample =
       some = λ weight h. h .1;
       sound = λ weight proper. decides-admits d rows weight (proper .some) .0;
       exact = λ weight proper. decides-admits d rows weight (proper .some) .1;
-      safe = λ difference multipliers ranged certificate shown weight admissible. let rule = decides-shows d rows difference multipliers .0 (shown-is (shows d rows difference multipliers) shown) in shown-weighed weight rows difference multipliers (admissible .2) (λ i below. rule .2 i (omega (arith, admissible .0)));
       zeros = λ difference ranged none. cond-true _ _ _ (decides-shows d rows difference (replicate (length rows) 0) .1 (ranged .width, length-replicate (length rows) 0, λ i below. rw (lift-zeros rows (length rows) i) (zero-added (getD difference i (pos 0)) (all-getD (λ z. pos 0 ≤ℤ z) difference i (pos 0) (omega (arith, ranged .width)) none))));
+      safe = λ difference multipliers ranged certificate shown weight admissible. let rule = decides-shows d rows difference multipliers .0 (shown-is (shows d rows difference multipliers) shown) in shown-weighed weight rows difference multipliers (admissible .2) (λ i below. rule .2 i (omega (arith, admissible .0)));
     }
   where
     zero-added : (z : ℤ) → pos 0 ≤ℤ z → pos 0 ≤ℤ (z +ℤ pos 0)

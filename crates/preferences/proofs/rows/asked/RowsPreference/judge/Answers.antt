@@ -3,6 +3,7 @@ use mathlib.Core.Bool.{Bool}
 use mathlib.Core.List.{List, map}
 use mathlib.Core.Path.{_≡_, sym, ap, _∙_, subst}
 use native.Mathlib.Omega.{arith}
+use borrow.Author.Needs.{needs}
 use lib.IntN.{ℤ, pos, _+ℤ_}
 use lib.ListN.{length, getD}
 use lib.Signed.{_≤ℤ_}
@@ -34,7 +35,7 @@ returns-then-entries-self c =
 pub none-negative-shown-requires : need.none-negative-shown-requires
 none-negative-shown-requires c κs =
     let range : All In-range (c .entries-entries .result .now) = rw (c .entries-entries .ensures) (entries-ranged (c .args .difference .now) .range) in
-    (omega (arith, c .as-slice .ensures .len, c .args .self .now .few), (omega (arith, c .as-slice .ensures .len, constraints-count (c .args .self .now)), range))
+    (omega (arith, c .as-slice .ensures .len, c .args .self .now .few), (omega (arith, c .as-slice .ensures .len, constraints-count (c .args .self .now)), search needs))
 
 pub returns-then-shown : need.returns-then-shown
 returns-then-shown c =
