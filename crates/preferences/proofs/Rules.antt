@@ -15,7 +15,8 @@ use Rattle.std.proofs.shelf.Elements.{all-getD}
 use Rattle.std.proofs.shelf.Lists.{length-replicate}
 use Rattle.std.proofs.shelf.Tests.{cond-true, cond-false}
 use Rattle.std.proofs.shelf.Ways.{decides-and, decides-eqb, decides-by-and, decides-below-and, decides-like, same-from-decides}
-use Rattle.model.specs.Meaning.{Lawful}
+use Rattle.model.specs.Limits.{Ranged}
+use Rattle.model.specs.Meaning.{Lawful, Safe}
 use Rattle.model.specs.Weighing.{total, weighed}
 use Rattle.model.specs.declared.judgement.Judgement.{Judgement}
 use Rattle.model.proofs.Each.{decides-le, decides-yes, decides-no}
@@ -57,9 +58,29 @@ decides-admits d rows weight some =
     decides-like (admits d rows weight) (λ h. (h .0, some, h .1)) (λ h. (h .0, h .2))
     (decides-and _ _ (decides-eqb (length weight) d) (decides-keep weight rows))
 
+-- zeros show a difference without a negative entry
+rows-zeros : (d : ℕ) (rows : List Constraint) (sample : List ℕ) (difference : List ℤ) → Ranged d difference → All (λ entry. pos 0 ≤ℤ entry) difference → rows-meaning d rows sample .judged difference (replicate (length rows) 0) ≡ Judgement.Shown
+rows-zeros d rows sample difference ranged none =
+    cond-true (shows d rows difference zeros) Judgement.Shown Judgement.NotShown (decides-shows d rows difference zeros .1 (ranged .width, length-replicate (length rows) 0, each))
+  where
+    zeros : List ℕ
+    zeros = replicate (length rows) 0
+
+    zero-added : (z : ℤ) → pos 0 ≤ℤ z → pos 0 ≤ℤ (z +ℤ pos 0)
+    zero-added z h = omega (arith, ints)
+
+    each : (i : ℕ) → i < d → pos 0 ≤ℤ (getD difference i (pos 0) +ℤ lift rows (replicate (length rows) 0) i)
+    each i below = rw (lift-zeros rows (length rows) i) (zero-added (getD difference i (pos 0)) (all-getD (λ z. pos 0 ≤ℤ z) difference i (pos 0) (omega (arith, ranged .width)) none))
+
 shown-is : (t : Bool) → cond t Judgement.Shown Judgement.NotShown ≡ Judgement.Shown → t ≡ true
 shown-is true h = refl
 shown-is false h = cc
+
+-- a shown difference is safe
+rows-safe : (d : ℕ) (rows : List Constraint) (sample : List ℕ) (difference : List ℤ) (multipliers : List ℕ) → rows-meaning d rows sample .judged difference multipliers ≡ Judgement.Shown → Safe (rows-meaning d rows sample) difference
+rows-safe d rows sample difference multipliers shown weight admissible =
+    let rule = decides-shows d rows difference multipliers .0 (shown-is (shows d rows difference multipliers) shown) in
+    shown-weighed weight rows difference multipliers (admissible .2) (λ i below. rule .2 i (omega (arith, admissible .0)))
 
 pub rows-lawful : (d : ℕ) (rows : List Constraint) (sample : List ℕ) → Lawful (rows-meaning d rows sample)
 rows-lawful d rows sample =
@@ -68,9 +89,6 @@ rows-lawful d rows sample =
       some = λ weight h. h .1;
       sound = λ weight proper. decides-admits d rows weight (proper .some) .0;
       exact = λ weight proper. decides-admits d rows weight (proper .some) .1;
-      zeros = λ difference ranged none. cond-true _ _ _ (decides-shows d rows difference (replicate (length rows) 0) .1 (ranged .width, length-replicate (length rows) 0, λ i below. rw (lift-zeros rows (length rows) i) (zero-added (getD difference i (pos 0)) (all-getD (λ z. pos 0 ≤ℤ z) difference i (pos 0) (omega (arith, ranged .width)) none))));
-      safe = λ difference multipliers ranged certificate shown weight admissible. let rule = decides-shows d rows difference multipliers .0 (shown-is (shows d rows difference multipliers) shown) in shown-weighed weight rows difference multipliers (admissible .2) (λ i below. rule .2 i (omega (arith, admissible .0)));
+      safe = λ difference multipliers ranged certificate. rows-safe d rows sample difference multipliers;
+      zeros = rows-zeros d rows sample;
     }
-  where
-    zero-added : (z : ℤ) → pos 0 ≤ℤ z → pos 0 ≤ℤ (z +ℤ pos 0)
-    zero-added z h = omega (arith, ints)
