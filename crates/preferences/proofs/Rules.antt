@@ -61,7 +61,7 @@ decides-admits d rows weight some =
 -- zeros show a difference without a negative entry
 rows-zeros : (d : ℕ) (rows : List Constraint) (sample : List ℕ) (difference : List ℤ) → Ranged d difference → All (λ entry. pos 0 ≤ℤ entry) difference → rows-meaning d rows sample .judged difference (replicate (length rows) 0) ≡ Judgement.Shown
 rows-zeros d rows sample difference ranged none =
-    cond-true (shows d rows difference zeros) Judgement.Shown Judgement.NotShown (decides-shows d rows difference zeros .1 (ranged .width, length-replicate (length rows) 0, each))
+    cond-true (shows d rows difference zeros) _ _ (decides-shows d rows difference zeros .1 (ranged .width, length-replicate (length rows) 0, each))
   where
     zeros : List ℕ
     zeros = replicate (length rows) 0
