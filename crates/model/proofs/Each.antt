@@ -1,4 +1,4 @@
--- A loop that looks whether every element of a list passes a test: where it stops early, and where it comes to the end.
+-- Tests that decide something, loops that ask whether every element of a list passes one, and what is stored or read of a list.
 use Prim.Native.Nat.{ℕ, _≤_, _<_}
 use mathlib.Core.Path.{_≡_, refl, sym, ap, subst, _∙_}
 use native.Mathlib.Omega.{arith}

@@ -1,15 +1,14 @@
 -- What the invariants of figures, weights and differences say of the lists that they stand for.
-use Prim.Native.Nat.{ℕ, _*_, _≤_}
-use mathlib.Core.Path.{_≡_, _∙_, ap, subst, sym}
+use Prim.Native.Nat.{ℕ, _≤_}
+use mathlib.Core.Path.{_≡_, ap, subst, sym}
 use mathlib.Core.Logic.{⊎-elim}
 use mathlib.Core.List.{List}
-use native.Mathlib.Nat.{mul-le-mul}
 use native.Mathlib.Omega.{arith}
 use lib.IntN.{pos}
-use lib.ListN.{length, getD, take, length-take}
+use lib.ListN.{length, getD}
 use Rattle.std.specs.shelf.Lists.{All}
 use Rattle.std.proofs.shelf.Elements.{all-getD}
-use Rattle.std.proofs.shelf.Lists.{getD-past}
+use Rattle.std.proofs.shelf.Lists.{getD-past, length-take-le}
 use Rattle.std.proofs.shelf.Tests.{cases-lt}
 use Rattle.model.specs.Limits.{In-limit, In-range, Proper, Ranged}
 use Rattle.model.specs.Values.{figures-of, parts-of, entries-of}
@@ -18,27 +17,19 @@ use Rattle.model.specs.declared.figures.Figures.{Figures}
 use Rattle.model.specs.declared.weight.Weight.{Weight}
 use Rattle.model.proofs.Each.{all-front}
 
--- the front of a list that is long enough
-front-count : {X : Type 0} (n : ℕ) (xs : List X) → n ≤ length xs → length (take n xs) ≡ n
-front-count n xs h = length-take n xs ∙ (omega arith)
-
 -- a number at any place: past the end it is 0
 pub limit-at : (xs : List ℕ) → All In-limit xs → (k : ℕ) → getD xs k 0 ≤ 1000000
 limit-at xs all k =
     ⊎-elim (λ within. all-getD In-limit xs k 0 within all) (λ past. rw (getD-past xs k 0 past) (omega arith)) (cases-lt k (length xs))
 
--- the product of two such numbers
-pub limit-product : (a b : ℕ) → a ≤ 1000000 → b ≤ 1000000 → a * b ≤ 1000000000000
-limit-product a b h k = mul-le-mul h k
-
 pub figures-count : (figures : Figures) → length (figures-of figures) ≡ figures .count
-figures-count figures = front-count (figures .count) (figures .values) (figures .stored)
+figures-count figures = length-take-le (figures .count) (figures .values) (figures .stored)
 
 pub figures-limits : (figures : Figures) → All In-limit (figures-of figures)
 figures-limits figures = all-front In-limit (figures .values) (figures .count) 0 (figures .limits)
 
 pub parts-count : (weight : Weight) → length (parts-of weight) ≡ weight .count
-parts-count weight = front-count (weight .count) (weight .parts) (weight .stored)
+parts-count weight = length-take-le (weight .count) (weight .parts) (weight .stored)
 
 -- parts that are lent: at most eight, each within the limit at any place
 pub lent-few : (weight : Weight) (parts : List ℕ) → parts ≡ parts-of weight → length parts ≤ 8
@@ -54,7 +45,7 @@ pub parts-proper : (weight : Weight) → Proper (weight .count) (parts-of weight
 parts-proper weight = record { width = parts-count weight; limits = parts-limits weight; some = weight .some }
 
 pub entries-count : (difference : Difference) → length (entries-of difference) ≡ difference .count
-entries-count difference = front-count (difference .count) (difference .entries) (difference .stored)
+entries-count difference = length-take-le (difference .count) (difference .entries) (difference .stored)
 
 pub entries-ranged : (difference : Difference) → Ranged (difference .count) (entries-of difference)
 entries-ranged difference =

@@ -34,12 +34,14 @@ rows-in-count d numbers = counted (length numbers / (d + 1)) numbers
     counted zero ns = refl
     counted (suc n) ns = ap suc (counted n (drop (d + 1) ns))
 
+pub same-constraint : (cs ds : List ℤ) (b e : ℤ) → cs ≡ ds → b ≡ e → _≡_ {A = Constraint} (record { coefficients = cs; bound = b }) (record { coefficients = ds; bound = e })
+same-constraint cs ds b e p q = ap (λ xs. record { coefficients = xs; bound = b }) p ∙ ap (λ z. record { coefficients = ds; bound = z }) q
+
 -- a row that is cut out of the list is the row at its front
 pub row-cut : (d : ℕ) (numbers : List ℤ) → row-at-front d (take (d + 1) numbers) ≡ row-at-front d numbers
 row-cut d numbers =
     let below : d < d + 1 = omega arith in
-    ap (λ cs. record { coefficients = cs; bound = getD (take (d + 1) numbers) d (pos 0) }) (take-take d (d + 1) numbers (omega arith))
-    ∙ ap (λ z. record { coefficients = take d numbers; bound = z }) (getD-take (d + 1) numbers d (pos 0) below)
+    same-constraint _ _ _ _ (take-take d (d + 1) numbers (omega arith)) (getD-take (d + 1) numbers d (pos 0) below)
 
 -- what is read of a row at the front
 pub front-read : (d : ℕ) (rest front : List ℤ) → d + 1 ≤ length rest → front ≡ take (d + 1) rest → All In-row-limit rest → (d + 1 ≤ length front) × All In-row-limit front

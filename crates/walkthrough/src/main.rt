@@ -1,4 +1,5 @@
 // Plays one task from beginning to end: a farm's preference, five tariff sheets of a barn, and a solver's claims about them, checked.
+ghost use mathlib.Core.Path.{_≡_};
 ghost use Prim.Native.Nat.{_≤_};
 ghost use lib.ListN.{length};
 use crate::claims::Claim;
@@ -30,9 +31,10 @@ fn run(rt: &LibcRuntime) -> Result<(), AnyError> {
     )?;
     let mut sheets = Vec::new(rt.alloc());
     for figures in &SHEETS {
-        if let Some(sheet) = make_sheet(rt, figures)? {
-            sheets.push(sheet)?;
-        }
+        let Some(sheet) = make_sheet(rt, figures)? else {
+            return Err("a sheet of the barn was refused".into());
+        };
+        sheets.push(sheet)?;
     }
     check_claims(rt, &preference, sheets.as_slice())?;
     let _refused = make_sheet(rt, &[40, 1_000_001])?;
@@ -56,7 +58,9 @@ fn make_sheet(rt: &LibcRuntime, figures: &[u32]) -> Result<Option<PlainSheet>, A
     }
 }
 
-fn pair(variant: u16, share: u32) -> Share {
+fn pair(variant: u16, share: u32) -> Share
+    ensures { λ r. ⌜ (r .variant ≡ variant) × (r .share ≡ share) ⌝ }
+{
     Share { variant, share }
 }
 

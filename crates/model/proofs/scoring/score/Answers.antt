@@ -1,11 +1,12 @@
 use Prim.Native.Nat.{_*_, _≤_}
 use mathlib.Core.Path.{_≡_, ap, _∙_}
+use native.Mathlib.Nat.{mul-le-mul}
 use native.Mathlib.Omega.{arith}
 use lib.ListN.{getD}
 use Rattle.std.proofs.shelf.Lists.{take-all}
 use Rattle.model.specs.Values.{figures-of}
 use Rattle.model.specs.Weighing.{score}
-use Rattle.model.proofs.Stored.{limit-at, limit-product, lent-few, lent-limit, figures-limits}
+use Rattle.model.proofs.Stored.{limit-at, lent-few, lent-limit, figures-limits}
 use Rattle.model.proofs.Sums.{score-more}
 use Rattle.model.proofs.scoring.score.Needs as need
 
@@ -17,7 +18,7 @@ small : (c : need.After-from-in-loop-index) → c .from .result * c .from-in-loo
 small c =
     let part = lent-limit (c .args .weight .now) (c .parts-parts .result .now) (c .parts-parts .ensures) (c .loop-index .index) in
     let figure = limit-at (figures-of (c .args .figures .now)) (figures-limits (c .args .figures .now)) (c .loop-index .index) in
-    rw (product c) (limit-product _ _ part figure)
+    rw (product c) (mul-le-mul part figure)
 
 pub add-sum : need.add-sum
 add-sum c = omega (arith, small c, lent-few (c .args .weight .now) (c .parts-parts .result .now) (c .parts-parts .ensures))

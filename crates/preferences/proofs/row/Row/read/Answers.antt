@@ -10,7 +10,8 @@ use Rattle.std.proofs.shelf.Elements.{all-getD, all-take}
 use Rattle.std.proofs.shelf.Lists.{length-take-le}
 use Rattle.std.specs.shelf.Lists.{All}
 use Rattle.model.proofs.Each.{front-each, front-filled}
-use Rattle.preferences.specs.Constraints.{Constraint, In-row-limit}
+use Rattle.preferences.specs.Constraints.{In-row-limit}
+use Rattle.preferences.proofs.Lists.{same-constraint}
 use Rattle.preferences.proofs.row.Row.read.Needs as need
 
 -- the stored coefficients begin with those of the list
@@ -25,9 +26,6 @@ limits : (dims : ℕ) (numbers stored : List ℤ) → dims ≤ length numbers �
 limits dims numbers stored long all same k below =
     let count : length (take dims numbers) ≡ dims = length-take-le dims numbers long in
     front-each In-row-limit (take dims numbers) stored (pos 0) (ap (λ n. take n stored) count ∙ same) (all-take In-row-limit dims numbers all) k (omega arith)
-
-same-constraint : (cs ds : List ℤ) (b e : ℤ) → cs ≡ ds → b ≡ e → _≡_ {A = Constraint} (record { coefficients = cs; bound = b }) (record { coefficients = ds; bound = e })
-same-constraint cs ds b e p q = ap (λ xs. record { coefficients = xs; bound = b }) p ∙ ap (λ z. record { coefficients = ds; bound = z }) q
 
 pub ghost-result : need.ghost-result
 ghost-result c =
