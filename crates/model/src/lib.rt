@@ -1,4 +1,6 @@
 // Definitions and interfaces: scores, differences, the grounds of refusal, and what a preference and a variant are.
+#![tactic(auto)]
+
 mod answers;
 mod difference;
 mod figures;
