@@ -5,8 +5,8 @@ use Rattle.model.specs.Limits.{InRange}
 use Rattle.model.specs.Each.{stops, ends}
 use Rattle.model.proofs.lists.within_range.Goals as goal
 
-pub returns-then-unsigned-abs-gt-RANGE : goal.returns-then-unsigned-abs-gt-RANGE
-returns-then-unsigned-abs-gt-RANGE c =
+pub returns-then-unsigned_abs-gt-RANGE : goal.returns-then-unsigned_abs-gt-RANGE
+returns-then-unsigned_abs-gt-RANGE c =
     let fits : SFits w64 (get_or c.args.entries.now c.loop-entry.entry-index (pos 0)) = search rules in
     stops InRange c.args.entries.now c.loop-entry.entry-index (pos 0) (omega arith) (λ h. omega (arith, ints))
 

@@ -16,8 +16,8 @@ small c =
     let figure = limit_at (figures_of c.args.figures.now) (figures_limits c.args.figures.now) c.loop-index.index in
     rw (product c) (mul-le-mul part figure)
 
-pub overflow-add-sum : goal.overflow-add-sum
-overflow-add-sum c = omega (arith, small c, lent_few c.args.weight.now c.parts-parts.result.now c.parts-parts.ensures)
+pub overflow_add-sum : goal.overflow_add-sum
+overflow_add-sum c = omega (arith, small c, lent_few c.args.weight.now c.parts-parts.result.now c.parts-parts.ensures)
 
 pub loop-index-preserved : goal.loop-index-preserved
 loop-index-preserved c =

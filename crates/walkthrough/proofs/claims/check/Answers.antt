@@ -7,8 +7,8 @@ pub returns : goal.returns
 returns g c =
     let m = g.P.Preference.meaning c.args.preference.now in
     let multipliers = c.args.claim.multipliers.now in
-    let made = c.in-ok-difference.ensures in
+    let made = c.in_ok-difference.ensures in
     record {
       entries = made;
-      answer = subst (λ zs. Checked (difference_question m zs multipliers) c.ask-difference-judgement.result (Judges m zs multipliers)) (c.as-slice.ensures.value ∙ made) c.ask-difference-judgement.ensures;
+      answer = subst (λ zs. Checked (difference_question m zs multipliers) c.ask_difference-judgement.result (Judges m zs multipliers)) (c.as_slice.ensures.value ∙ made) c.ask_difference-judgement.ensures;
     }

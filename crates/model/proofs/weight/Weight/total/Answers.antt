@@ -8,8 +8,8 @@ use Rattle.model.proofs.weight.Weight.total.Goals as goal
 part_limit : (c : goal.After-from-sum) → c.from-sum.result ≤ 1000000
 part_limit c = omega (arith, lent_limit c.args.self.now c.parts-parts.result.now c.parts-parts.ensures c.loop-part.part-index)
 
-pub overflow-add-sum : goal.overflow-add-sum
-overflow-add-sum c = omega (arith, part_limit c, lent_few c.args.self.now c.parts-parts.result.now c.parts-parts.ensures)
+pub overflow_add-sum : goal.overflow_add-sum
+overflow_add-sum c = omega (arith, part_limit c, lent_few c.args.self.now c.parts-parts.result.now c.parts-parts.ensures)
 
 pub loop-part-preserved : goal.loop-part-preserved
 loop-part-preserved c =

@@ -6,8 +6,8 @@ use Rattle.model.specs.Stored.{lent_entries_few, lent_range}
 use Rattle.preferences.specs.RankingsLemmas.{first_sum-suc}
 use Rattle.preferences.proofs.ranking.asked.no_sum_negative.Goals as goal
 
-pub overflow-add-sum : goal.overflow-add-sum
-overflow-add-sum c =
+pub overflow_add-sum : goal.overflow_add-sum
+overflow_add-sum c =
     let entries = c.entries-entries.result.now in
     let few = lent_entries_few c.args.difference.now entries c.entries-entries.ensures in
     let range = lent_range c.args.difference.now entries c.entries-entries.ensures c.loop-entry.entry-index in

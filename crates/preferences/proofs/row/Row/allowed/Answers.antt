@@ -16,8 +16,8 @@ product c =
 size : (c : goal.After-from) → nat_abs (c.args.self.now.bound *ℤ pos (total (parts_of c.args.weight.now))) ≤ 10000 * 8000000
 size c = product_size c.args.self.now.bound _ 10000 8000000 c.args.self.now.bounded (omega (arith, c.total-total.ensures.value))
 
-pub overflow-mul-result : goal.overflow-mul-result
-overflow-mul-result c = subst (SFits w64) (sym (product c)) (fits _ (10000 * 8000000) (size c) (lit< tt))
+pub overflow_mul-result : goal.overflow_mul-result
+overflow_mul-result c = subst (SFits w64) (sym (product c)) (fits _ (10000 * 8000000) (size c) (lit< tt))
 
 pub returns : goal.returns
 returns c =

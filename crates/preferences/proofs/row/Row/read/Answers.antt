@@ -21,8 +21,8 @@ limits dims numbers stored long all same k below =
     let count : length (take dims numbers) ≡ dims = length-take-le dims numbers long in
     front_each InRowLimit (take dims numbers) stored (pos 0) (ap (λ n. take n stored) count ∙ same) (All-take InRowLimit dims numbers all) k (omega arith)
 
-pub invariant-of-result : goal.invariant-of-result
-invariant-of-result c =
+pub invariant_of-result : goal.invariant_of-result
+invariant_of-result c =
     let numbers = c.args.numbers.now in
     let limit : nat_abs (get_or numbers c.args.dims (pos 0)) ≤ 10000 = All-get_or InRowLimit numbers c.args.dims (pos 0) (omega arith) c.requires.1.1 in
     let same = front c.args.dims numbers c.padded-coefficients.result _ c.requires.0 (omega arith) c.padded-coefficients.ensures in

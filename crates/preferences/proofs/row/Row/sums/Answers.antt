@@ -19,11 +19,11 @@ step c =
     let multiplier : nat_abs c.from.result ≤ 4294967296 = rw c.from.ensures (omega (arith, c.ranges.multiplier.fits)) in
     added _ c.from.result c.effective.result 1000000000000 4294967296 20000 entry multiplier c.effective.ensures.size (lit< tt) (lit< tt) (lit< tt)
 
-pub overflow-mul-sums : goal.overflow-mul-sums
-overflow-mul-sums c = (step c).product
+pub overflow_mul-sums : goal.overflow_mul-sums
+overflow_mul-sums c = (step c).product
 
-pub overflow-add-sums : goal.overflow-add-sums
-overflow-add-sums c = (step c).ranges
+pub overflow_add-sums : goal.overflow_add-sums
+overflow_add-sums c = (step c).ranges
 
 pub loop-index-preserved : goal.loop-index-preserved
 loop-index-preserved c =

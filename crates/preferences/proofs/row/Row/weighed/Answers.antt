@@ -15,11 +15,11 @@ step c sum is size =
     added sum c.from.result c.coefficient.result (10000000000 * c.loop-index.index) 1000000 10000 size part c.coefficient.ensures.size (lit< tt) (lit< tt)
     (omega (arith, lent_few c.args.weight.now parts c.parts-parts.ensures))
 
-pub overflow-mul-sum : goal.overflow-mul-sum
-overflow-mul-sum c = (step c _ c.loop-index.sum-is c.loop-index.invariant.1).product
+pub overflow_mul-sum : goal.overflow_mul-sum
+overflow_mul-sum c = (step c _ c.loop-index.sum-is c.loop-index.invariant.1).product
 
-pub overflow-add-sum : goal.overflow-add-sum
-overflow-add-sum c = (step c _ c.loop-index.sum-is c.loop-index.invariant.1).fits
+pub overflow_add-sum : goal.overflow_add-sum
+overflow_add-sum c = (step c _ c.loop-index.sum-is c.loop-index.invariant.1).fits
 
 pub loop-index-init : goal.loop-index-init
 loop-index-init c = (refl, omega arith)

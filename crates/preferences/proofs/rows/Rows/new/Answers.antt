@@ -5,9 +5,9 @@ use Rattle.preferences.specs.Stored.{constraint_of}
 use Rattle.preferences.proofs.Lists.{rows_in_count}
 use Rattle.preferences.proofs.rows.Rows.new.Goals as goal
 
-pub invariant-of-result : goal.invariant-of-result
-invariant-of-result c =
-    let rows = c.in-ok-rows.rows in
-    let given : IsRowList c.args.dims c.args.numbers.now = c.is-row-list.ensures.0 c.if-not-is-row-list.false in
-    let count = rows.ok.0 ∙ sym (length-map (vec_items rows) constraint_of) ∙ ap length c.in-ok-rows.ensures ∙ rows_in_count c.args.dims c.args.numbers.now in
+pub invariant_of-result : goal.invariant_of-result
+invariant_of-result c =
+    let rows = c.in_ok-rows.rows in
+    let given : IsRowList c.args.dims c.args.numbers.now = c.is_row_list.ensures.0 c.if-not-is_row_list.false in
+    let count = rows.ok.0 ∙ sym (length-map (vec_items rows) constraint_of) ∙ ap length c.in_ok-rows.ensures ∙ rows_in_count c.args.dims c.args.numbers.now in
     (omega (arith, count, given.few), tt)

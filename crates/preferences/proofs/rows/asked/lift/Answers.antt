@@ -13,11 +13,11 @@ step c sum is size =
     let multiplier : nat_abs c.from.result ≤ 4294967296 = rw c.from.ensures (omega (arith, (c.type-inv.multipliers c.loop-place.place).fits)) in
     added sum c.from.result c.effective.result (85899345920000 * c.loop-place.place) 4294967296 20000 size multiplier c.effective.ensures.size (lit< tt) (lit< tt) (omega (arith, c.requires.0))
 
-pub overflow-mul-sum : goal.overflow-mul-sum
-overflow-mul-sum c = (step c _ c.loop-place.sum-is c.loop-place.invariant.1).product
+pub overflow_mul-sum : goal.overflow_mul-sum
+overflow_mul-sum c = (step c _ c.loop-place.sum-is c.loop-place.invariant.1).product
 
-pub overflow-add-sum : goal.overflow-add-sum
-overflow-add-sum c = (step c _ c.loop-place.sum-is c.loop-place.invariant.1).fits
+pub overflow_add-sum : goal.overflow_add-sum
+overflow_add-sum c = (step c _ c.loop-place.sum-is c.loop-place.invariant.1).fits
 
 pub loop-place-init : goal.loop-place-init
 loop-place-init c = (refl, omega arith)

@@ -5,8 +5,8 @@ use Rattle.model.specs.Limits.{InRange}
 use Rattle.model.specs.Each.{Decides-yes, Decides-no}
 use Rattle.preferences.proofs.rows.asked.none_negative.Goals as goal
 
-pub overflow-add-entry : goal.overflow-add-entry
-overflow-add-entry c =
+pub overflow_add-entry : goal.overflow_add-entry
+overflow_add-entry c =
     let range : nat_abs (get_or c.args.entries.now c.loop-index.index (pos 0)) ≤ 1000000000000 = All-get_or InRange c.args.entries.now c.loop-index.index (pos 0) c.loop-index-test.true c.requires.1.1 in
     let size = c.lift.ensures.size in
     omega (arith, ints)

@@ -5,8 +5,8 @@ use Rattle.model.specs.Each.{stops, ends}
 use Rattle.preferences.specs.Constraints.{InRowLimit}
 use Rattle.preferences.proofs.rows.flat.within_row_limit.Goals as goal
 
-pub returns-then-unsigned-abs-gt10000 : goal.returns-then-unsigned-abs-gt10000
-returns-then-unsigned-abs-gt10000 c =
+pub returns-then-unsigned_abs-gt10000 : goal.returns-then-unsigned_abs-gt10000
+returns-then-unsigned_abs-gt10000 c =
     let fits : SFits w32 (get_or c.args.numbers.now c.loop-number.number-index (pos 0)) = search rules in
     stops InRowLimit c.args.numbers.now c.loop-number.number-index (pos 0) (omega arith) (λ h. omega (arith, ints))
 

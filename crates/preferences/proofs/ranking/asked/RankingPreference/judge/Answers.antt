@@ -6,16 +6,16 @@ use Rattle.preferences.specs.Judged.{judged_shown, judged_not_shown}
 use Rattle.preferences.specs.RankingsLemmas.{Decides-ranking_shows}
 use Rattle.preferences.proofs.ranking.asked.RankingPreference.judge.Goals as goal
 
-pub returns-then-no-sum-negative : goal.returns-then-no-sum-negative
-returns-then-no-sum-negative c =
+pub returns-then-no_sum_negative : goal.returns-then-no_sum_negative
+returns-then-no_sum_negative c =
     let difference = entries_of c.args.difference.now in
     let width : length difference ≡ c.args.self.now.dims = sym (ap length c.entries.ensures) ∙ c.if-entries-self.false in
     judged_shown _ (Decides-ranking_shows c.args.self.now.dims difference c.args.multipliers.now)
-    (width, eqb-true _ _ (sym c.if-not-is-empty.ensures), λ n below. c.no-sum-negative.ensures.0 c.if-no-sum-negative.true n (omega arith))
+    (width, eqb-true _ _ (sym c.if-not-is_empty.ensures), λ n below. c.no_sum_negative.ensures.0 c.if-no_sum_negative.true n (omega arith))
 
-pub returns-else-no-sum-negative : goal.returns-else-no-sum-negative
-returns-else-no-sum-negative c =
+pub returns-else-no_sum_negative : goal.returns-else-no_sum_negative
+returns-else-no_sum_negative c =
     let difference = entries_of c.args.difference.now in
     let width : length difference ≡ c.args.self.now.dims = sym (ap length c.entries.ensures) ∙ c.if-entries-self.false in
     judged_not_shown _ (Decides-ranking_shows c.args.self.now.dims difference c.args.multipliers.now)
-    (λ h. not_from_Decides c.no-sum-negative.result c.no-sum-negative.ensures c.if-no-sum-negative.false (λ n below. h.2 n (omega arith)))
+    (λ h. not_from_Decides c.no_sum_negative.result c.no_sum_negative.ensures c.if-no_sum_negative.false (λ n below. h.2 n (omega arith)))

@@ -12,7 +12,7 @@ pub returns : goal.returns
 returns c =
     let rows = constraints_of c.args.self.now in
     let weight = parts_of c.args.weight.now in
-    let kept : Decides c.all_keep.result (All (Keeps weight) rows) = subst (λ xs. Decides c.all_keep.result (All (Keeps weight) (map constraint_of xs))) c.as-slice.ensures.value c.all_keep.ensures in
+    let kept : Decides c.all_keep.result (All (Keeps weight) rows) = subst (λ xs. Decides c.all_keep.result (All (Keeps weight) (map constraint_of xs))) c.as_slice.ensures.value c.all_keep.ensures in
     let width : length weight ≡ c.args.self.now.dims = sym (ap length c.parts.ensures) ∙ c.if-parts-self.false in
     same_from_decides c.all_keep.result (all_keep weight rows) kept (Decides-keep weight rows)
     ∙ sym (ap (λ t. t && all_keep weight rows) (eq-eqb (length weight) c.args.self.now.dims width))

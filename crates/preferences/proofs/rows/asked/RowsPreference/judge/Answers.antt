@@ -23,16 +23,16 @@ pub returns-then-entries-self : goal.returns-then-entries-self
 returns-then-entries-self c =
     judged_not_shown _ (constraints_of c.args.self.now) (entries_of c.args.difference.now) c.args.multipliers.now (λ h. c.if-entries-self.true (ap length c.entries-entries.ensures ∙ h.0))
 
-pub none-negative-shown-requires : goal.none-negative-shown-requires
-none-negative-shown-requires c =
+pub none_negative-shown-requires : goal.none_negative-shown-requires
+none_negative-shown-requires c =
     let range : All InRange c.entries-entries.result.now = rw c.entries-entries.ensures (entries_ranged c.args.difference.now).range in
-    (omega (arith, c.as-slice.ensures.len, c.args.self.now.few), (omega (arith, c.as-slice.ensures.len, constraints_count c.args.self.now), search rules))
+    (omega (arith, c.as_slice.ensures.len, c.args.self.now.few), (omega (arith, c.as_slice.ensures.len, constraints_count c.args.self.now), search rules))
 
 pub returns-then-shown : goal.returns-then-shown
 returns-then-shown c =
     let self = c.args.self.now in
     let difference = entries_of c.args.difference.now in
-    let kept = same_kept _ _ _ difference c.args.multipliers.now c.none-negative-shown.result c.as-slice.ensures.value c.entries-entries.ensures c.none-negative-shown.ensures in
+    let kept = same_kept _ _ _ difference c.args.multipliers.now c.none_negative-shown.result c.as_slice.ensures.value c.entries-entries.ensures c.none_negative-shown.ensures in
     let width : length difference ≡ self.dims = sym (ap length c.entries-entries.ensures) ∙ c.if-entries-self.false in
     judged_shown self.dims (constraints_of self) difference c.args.multipliers.now
     (width, c.if-multipliers.false ∙ c.multipliers.ensures, λ i below. kept.0 c.if-shown.true i (omega arith))
@@ -41,7 +41,7 @@ pub returns-else-shown : goal.returns-else-shown
 returns-else-shown c =
     let self = c.args.self.now in
     let difference = entries_of c.args.difference.now in
-    let kept = same_kept _ _ _ difference c.args.multipliers.now c.none-negative-shown.result c.as-slice.ensures.value c.entries-entries.ensures c.none-negative-shown.ensures in
+    let kept = same_kept _ _ _ difference c.args.multipliers.now c.none_negative-shown.result c.as_slice.ensures.value c.entries-entries.ensures c.none_negative-shown.ensures in
     let width : length difference ≡ self.dims = sym (ap length c.entries-entries.ensures) ∙ c.if-entries-self.false in
     judged_not_shown self.dims (constraints_of self) difference c.args.multipliers.now
-    (λ h. not_from_Decides c.none-negative-shown.result kept c.if-shown.false (λ i below. h.2 i (omega arith)))
+    (λ h. not_from_Decides c.none_negative-shown.result kept c.if-shown.false (λ i below. h.2 i (omega arith)))
