@@ -1,6 +1,6 @@
 -- A question that no ground meets, and what the laws say of its answer.
 use Rattle.std.proofs.Common.{◌≡◌, ℕ, Bool, List, length, ℤ, Decides, sym, ap, ◌∙◌, subst, arith}
-use Rattle.std.specs.List.{AllByRecursion as All}
+use Rattle.std.specs.List.{AllByRecursion}
 use Rattle.model.specs.Limits.{IsFigureCount, InLimit, InRange, Ranged, difference_grounds}
 use Rattle.model.specs.Meaning.{Meaning, Lawful}
 use Rattle.model.specs.Questions.{weight_question, difference_question, Judges}
@@ -13,7 +13,7 @@ use Rattle.model.specs.Stored.{made_proper, parts_count, entries_ranged, entries
 use Rattle.model.proofs.Tables.{unopposed, unopposed_end}
 
 -- 1 to 8 entries within the range are not refused
-pub difference_unopposed : (entries : List ℤ) → IsFigureCount (length entries) → All InRange entries → Unopposed (difference_grounds entries)
+pub difference_unopposed : (entries : List ℤ) → IsFigureCount (length entries) → AllByRecursion InRange entries → Unopposed (difference_grounds entries)
 difference_unopposed entries count range = unopposed _ _ _ (λ wrong. wrong count) (unopposed _ _ _ (λ wrong. wrong range) unopposed_end)
 
 module _ (m : Meaning) (lawful : Lawful m) where
@@ -26,10 +26,10 @@ module _ (m : Meaning) (lawful : Lawful m) where
         ((λ h. lawful.sound parts proper (sym answer ∙ h)), (λ h. answer ∙ lawful.exact parts proper h)),
       )
 
-  pub difference_asked : (difference : Difference) (entries : List ℤ) (multipliers : List ℕ) (judgement : Judgement) → entries_of difference ≡ entries → length entries ≡ m.dims → length multipliers ≡ m.multipliers → All InLimit multipliers → judgement ≡ m.judged (entries_of difference) multipliers → Unopposed (difference_question m entries multipliers) × Judges m entries multipliers judgement
+  pub difference_asked : (difference : Difference) (entries : List ℤ) (multipliers : List ℕ) (judgement : Judgement) → entries_of difference ≡ entries → length entries ≡ m.dims → length multipliers ≡ m.multipliers → AllByRecursion InLimit multipliers → judgement ≡ m.judged (entries_of difference) multipliers → Unopposed (difference_question m entries multipliers) × Judges m entries multipliers judgement
   difference_asked difference entries multipliers judgement same width count limits says =
       let held = entries_ranged difference in
-      let ranged : Ranged m.dims entries = record { width = width; range = subst (All InRange) same held.range } in
+      let ranged : Ranged m.dims entries = record { width = width; range = subst (AllByRecursion InRange) same held.range } in
       let answer : judgement ≡ m.judged entries multipliers = says ∙ ap (λ zs. m.judged zs multipliers) same in
       let dims : IsFigureCount m.dims = (omega (arith, difference.least, entries_count difference, ap length same), omega (arith, difference.most, entries_count difference, ap length same)) in (
         unopposed _ _ _ (λ wrong. wrong (dims, width)) (unopposed _ _ _ (λ wrong. wrong count) (unopposed _ _ _ (λ wrong. wrong limits) (unopposed _ _ _ (λ wrong. wrong ranged.range) unopposed_end))),

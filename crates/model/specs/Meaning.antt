@@ -1,6 +1,6 @@
 -- What a preference means, and the laws that every kind of preference keeps.
 use Rattle.std.specs.Prelude.{◌≡◌, ℕ, ◌<◌, Bool, true, List, length, replicate, ℤ, pos, ◌≤ℤ◌}
-use Rattle.std.specs.List.{AllByRecursion as All}
+use Rattle.std.specs.List.{AllByRecursion}
 use Rattle.model.specs.Limits.{InLimit, Proper, Ranged}
 use Rattle.model.specs.Weighing.{total, weighed}
 use Rattle.model.specs.declared.judgement.Judgement.{Judgement}
@@ -17,7 +17,7 @@ pub record Meaning : Type 1 where
 -- a certificate for m: as many multipliers as m takes, each within the limit
 pub record Certificate (m : Meaning) (multipliers : List ℕ) : Type 0 where
   pub count : length multipliers ≡ m.multipliers
-  pub limits : All InLimit multipliers
+  pub limits : AllByRecursion InLimit multipliers
 
 -- a weight that may be the sample of m: a proper weight that is admissible
 pub record SampleOf (m : Meaning) (weight : List ℕ) : Type 0 where
@@ -41,4 +41,4 @@ pub record Lawful (m : Meaning) : Type 0 where
   -- a difference that a certificate shows is safe
   pub safe : (difference : List ℤ) (multipliers : List ℕ) → Ranged m.dims difference → Certificate m multipliers → m.judged difference multipliers ≡ Judgement.Shown → Safe m difference
   -- zeros show every difference without a negative entry
-  pub zeros : (difference : List ℤ) → Ranged m.dims difference → All (λ entry. pos 0 ≤ℤ entry) difference → m.judged difference (replicate m.multipliers 0) ≡ Judgement.Shown
+  pub zeros : (difference : List ℤ) → Ranged m.dims difference → AllByRecursion (λ entry. pos 0 ≤ℤ entry) difference → m.judged difference (replicate m.multipliers 0) ≡ Judgement.Shown

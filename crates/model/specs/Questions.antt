@@ -1,6 +1,6 @@
 -- The grounds on which a preference refuses a question, for every kind. A preference whose number of figures is not 1 to 8 has no weight and no difference, so every question to it has the wrong width.
 use Rattle.std.specs.Prelude.{◌≡◌, ℕ, ◌<◌, List, length, ℤ}
-use Rattle.std.specs.List.{AllByRecursion as All}
+use Rattle.std.specs.List.{AllByRecursion}
 use Rattle.model.specs.Limits.{IsFigureCount, InLimit, InRange}
 use Rattle.model.specs.Meaning.{Meaning, Safe}
 use Rattle.model.specs.Refusals.{line, end}
@@ -12,7 +12,7 @@ use Rattle.model.specs.declared.refusal.Refusal.{Refusal}
 abbrev pub weight_question : Meaning → List ℕ → Refusal → Type 0
 weight_question m weight =
     line Refusal.Width ((IsFigureCount m.dims × (length weight ≡ m.dims)) → ⊥)
-    (line Refusal.Part ((All InLimit weight × (0 < total weight)) → ⊥)
+    (line Refusal.Part ((AllByRecursion InLimit weight × (0 < total weight)) → ⊥)
     end)
 
 -- do these multipliers show this difference?
@@ -20,8 +20,8 @@ abbrev pub difference_question : Meaning → List ℤ → List ℕ → Refusal �
 difference_question m difference multipliers =
     line Refusal.Width ((IsFigureCount m.dims × (length difference ≡ m.dims)) → ⊥)
     (line Refusal.ProofLength ((length multipliers ≡ m.multipliers) → ⊥)
-    (line Refusal.ProofNumber (All InLimit multipliers → ⊥)
-    (line Refusal.OutOfRange (All InRange difference → ⊥)
+    (line Refusal.ProofNumber (AllByRecursion InLimit multipliers → ⊥)
+    (line Refusal.OutOfRange (AllByRecursion InRange difference → ⊥)
     end)))
 
 -- The right judgement of a question that no ground meets: what the preference's rule says, and a shown difference is safe.

@@ -1,7 +1,7 @@
 -- What the invariants of figures, weights and differences say of the lists that they stand for.
 use Rattle.std.specs.Prelude.{◌≡◌, ℕ, ◌<◌, ◌≤◌, List, length, ℤ, pos, slice_index, slice_index_or, unsigned_abs}
 use Rattle.std.proofs.Common.{ap, subst, sym, arith}
-use Rattle.std.specs.List.{AllByRecursion as All}
+use Rattle.std.specs.List.{AllByRecursion}
 use Rattle.std.proofs.lemmas.List.{length-take-le}
 use Rattle.model.specs.Limits.{InLimit, InRange, Proper, Ranged}
 use Rattle.model.specs.Values.{figures_of, parts_of, entries_of}
@@ -12,13 +12,13 @@ use Rattle.model.specs.declared.weight.Weight.{Weight}
 use Rattle.model.specs.Each.{All-at, All-front}
 
 -- a number at any place: past the end it is 0
-pub limit_at : (xs : List ℕ) → All InLimit xs → (k : ℕ) → slice_index xs k ≤ 1000000
+pub limit_at : (xs : List ℕ) → AllByRecursion InLimit xs → (k : ℕ) → slice_index xs k ≤ 1000000
 limit_at xs all k = All-at InLimit xs 0 all (omega arith) k
 
 pub figures_count : (figures : Figures) → length (figures_of figures) ≡ figures.count
 figures_count figures = length-take-le figures.count figures.values figures.stored
 
-pub figures_limits : (figures : Figures) → All InLimit (figures_of figures)
+pub figures_limits : (figures : Figures) → AllByRecursion InLimit (figures_of figures)
 figures_limits figures = All-front InLimit figures.values figures.count 0 figures.limits
 
 pub parts_count : (weight : Weight) → length (parts_of weight) ≡ weight.count
@@ -28,16 +28,16 @@ parts_count weight = length-take-le weight.count weight.parts weight.stored
 pub lent_few : (weight : Weight) (parts : List ℕ) → parts ≡ parts_of weight → length parts ≤ 8
 lent_few weight parts same = omega (arith, ap length same, parts_count weight, weight.most)
 
-pub parts_limits : (weight : Weight) → All InLimit (parts_of weight)
+pub parts_limits : (weight : Weight) → AllByRecursion InLimit (parts_of weight)
 parts_limits weight = All-front InLimit weight.parts weight.count 0 weight.limits
 
 pub lent_limit : (weight : Weight) (parts : List ℕ) → parts ≡ parts_of weight → (k : ℕ) → slice_index parts k ≤ 1000000
-lent_limit weight parts same k = limit_at parts (subst (All InLimit) (sym same) (parts_limits weight)) k
+lent_limit weight parts same k = limit_at parts (subst (AllByRecursion InLimit) (sym same) (parts_limits weight)) k
 
 -- what a weight was made of is proper
 pub made_proper : (weight : Weight) (parts : List ℕ) (d : ℕ) → parts_of weight ≡ parts → length parts ≡ d → Proper d parts
 made_proper weight parts d same width =
-    record { width = width; limits = subst (All InLimit) same (parts_limits weight); some = subst (λ w. 0 < total w) same weight.some }
+    record { width = width; limits = subst (AllByRecursion InLimit) same (parts_limits weight); some = subst (λ w. 0 < total w) same weight.some }
 
 pub entries_count : (difference : Difference) → length (entries_of difference) ≡ difference.count
 entries_count difference = length-take-le difference.count difference.entries difference.stored
@@ -54,4 +54,4 @@ pub lent_entries_few : (difference : Difference) (entries : List ℤ) → entrie
 lent_entries_few difference entries same = omega (arith, ap length same, entries_count difference, difference.most)
 
 pub lent_range : (difference : Difference) (entries : List ℤ) → entries ≡ entries_of difference → (k : ℕ) → unsigned_abs (slice_index_or entries k (pos 0)) ≤ 1000000000000
-lent_range difference entries same k = All-at InRange entries (pos 0) (subst (All InRange) (sym same) (entries_ranged difference).range) (omega arith) k
+lent_range difference entries same k = All-at InRange entries (pos 0) (subst (AllByRecursion InRange) (sym same) (entries_ranged difference).range) (omega arith) k

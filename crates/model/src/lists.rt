@@ -1,5 +1,5 @@
 ghost use Rattle.std.specs.Prelude.{◌≡◌, ◌-◌, ◌++◌, length, take, replicate, Decides};
-ghost use Rattle.std.specs.List.{AllByRecursion as All};
+ghost use Rattle.std.specs.List.{AllByRecursion};
 ghost use Rattle.model.specs.Limits.{InLimit, InRange};
 
 // The largest figure, part and multiplier.
@@ -10,7 +10,7 @@ const RANGE: u64 = 1_000_000_000_000;
 
 // Whether every number is within the limit.
 pub(crate) fn within_limit(numbers: &[u32]) -> bool
-    ensures { Decides result (All InLimit numbers.now) }
+    ensures { Decides result (AllByRecursion InLimit numbers.now) }
 {
     for number in numbers {
         if *number > LIMIT {
@@ -22,7 +22,7 @@ pub(crate) fn within_limit(numbers: &[u32]) -> bool
 
 // Whether every entry is within the range of a difference.
 pub(crate) fn within_range(entries: &[i64]) -> bool
-    ensures { Decides result (All InRange entries.now) }
+    ensures { Decides result (AllByRecursion InRange entries.now) }
 {
     for entry in entries {
         if entry.unsigned_abs() > RANGE {

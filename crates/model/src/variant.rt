@@ -1,5 +1,5 @@
 ghost use Rattle.std.specs.Prelude.{◌≡◌, ℕ, Bool, true, List, length, slice_index};
-ghost use Rattle.std.specs.List.{AllByRecursion as All};
+ghost use Rattle.std.specs.List.{AllByRecursion};
 ghost use Rattle.model.specs.Limits.{InLimit};
 ghost use Rattle.model.specs.Variants.{NoGreater};
 
@@ -21,7 +21,7 @@ pub trait Variant {
     fn at_least_as_good(&self, other: &Self) -> bool
         ensures { result ≡ better self.now other.now };
 
-    ghost limits: { (x : Self) → All InLimit (figures x) };
+    ghost limits: { (x : Self) → AllByRecursion InLimit (figures x) };
 
     ghost order: { (x y : Self) → better x y ≡ true → NoGreater (figures x) (figures y) };
 }

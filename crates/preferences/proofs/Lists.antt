@@ -5,7 +5,7 @@ use lib.IntN.{+ℤ_idl, +ℤ_idr, +ℤ_assoc}
 use Rattle.std.proofs.lemmas.List.{length-drop, length-take-le, take-take}
 use Rattle.std.proofs.ByRecursion.{All-take}
 use Rattle.std.proofs.lemmas.Bool.Decides.{same_from_decides}
-use Rattle.std.specs.List.{AllByRecursion as All}
+use Rattle.std.specs.List.{AllByRecursion}
 use Rattle.model.specs.Each.{Decides-le}
 use Rattle.preferences.specs.Constraints.{Constraint, InRowLimit, Keeps, all_keep, effective, lift}
 use Rattle.preferences.specs.RowList.{row_at_front, rows_at_front, rows_in}
@@ -36,7 +36,7 @@ row_cut d numbers =
     same_constraint _ _ _ _ (take-take d (d + 1) numbers (omega arith)) (get_or-take (d + 1) numbers d (pos 0) below)
 
 -- what is read of a row at the front
-pub front_read : (d : ℕ) (rest front : List ℤ) → d + 1 ≤ length rest → front ≡ take (d + 1) rest → All InRowLimit rest → (d + 1 ≤ length front) × All InRowLimit front
+pub front_read : (d : ℕ) (rest front : List ℤ) → d + 1 ≤ length rest → front ≡ take (d + 1) rest → AllByRecursion InRowLimit rest → (d + 1 ≤ length front) × AllByRecursion InRowLimit front
 front_read d rest front long same all =
     (omega (arith, ap length same, length-take-le (d + 1) rest long), rw same (All-take InRowLimit (d + 1) rest all))
 

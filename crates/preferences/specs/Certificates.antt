@@ -3,7 +3,7 @@ use Rattle.std.specs.Prelude.{◌≡◌, ℕ, zero, suc, ◌*◌, ◌<◌, List,
 use Rattle.std.proofs.Common.{sym, ap, ◌∙◌, mul-zero, arith}
 use Rattle.std.proofs.lemmas.Int.{ints}
 use Rattle.std.proofs.Math.IntN.{+ℤ_idl, +ℤ_invr, *ℤ_comm, *ℤ-zero, zero-*ℤ}
-use Rattle.std.specs.List.{AllByRecursion as All}
+use Rattle.std.specs.List.{AllByRecursion}
 use Rattle.model.specs.Weighing.{total, weighed}
 use Rattle.model.proofs.Weighed.{times_add, spread, spread_add, spread_times, spread_same, spread_nonneg, weighed-spread}
 use Rattle.preferences.specs.Constraints.{Constraint, Keeps, effective, lift}
@@ -39,7 +39,7 @@ nothing_weighed : (weight : List ℕ) → spread weight (λ i. pos 0) ≤ℤ pos
 nothing_weighed weight = rw (spread_same weight (pos 0), *ℤ-zero (pos (total weight))) (omega (arith, ints))
 
 -- what all the multipliers add, weighed by a weight that keeps every row
-lift_weighed : (weight : List ℕ) (rows : List Constraint) (multipliers : List ℕ) → All (Keeps weight) rows → spread weight (lift rows multipliers) ≤ℤ pos 0
+lift_weighed : (weight : List ℕ) (rows : List Constraint) (multipliers : List ℕ) → AllByRecursion (Keeps weight) rows → spread weight (lift rows multipliers) ≤ℤ pos 0
 lift_weighed weight [] multipliers keep = nothing_weighed weight
 lift_weighed weight (row ∷ rows) [] keep = nothing_weighed weight
 lift_weighed weight (row ∷ rows) (m ∷ multipliers) keep =
@@ -59,7 +59,7 @@ left_weighed weight difference added low all =
     left w d l s e p f g = omega (arith, ints)
 
 -- so a difference that is nowhere negative together with what the rows add is not negative, weighed
-pub shown_weighed : (weight : List ℕ) (rows : List Constraint) (difference : List ℤ) (multipliers : List ℕ) → All (Keeps weight) rows → ((i : ℕ) → i < length weight → pos 0 ≤ℤ (slice_index_or difference i (pos 0) +ℤ lift rows multipliers i)) → pos 0 ≤ℤ weighed weight difference
+pub shown_weighed : (weight : List ℕ) (rows : List Constraint) (difference : List ℤ) (multipliers : List ℕ) → AllByRecursion (Keeps weight) rows → ((i : ℕ) → i < length weight → pos 0 ≤ℤ (slice_index_or difference i (pos 0) +ℤ lift rows multipliers i)) → pos 0 ≤ℤ weighed weight difference
 shown_weighed weight rows difference multipliers keep each =
     left_weighed weight difference (lift rows multipliers) (lift_weighed weight rows multipliers keep) (spread_nonneg weight (λ i. slice_index_or difference i (pos 0) +ℤ lift rows multipliers i) each)
 

@@ -1,7 +1,7 @@
 -- Linear constraints on weights, and what multipliers of them show.
 use Rattle.std.specs.Prelude.{◌≡◌, ℕ, zero, suc, ◌<◌, ◌≤◌, Bool, true, ◌&&◌, List, [], ◌∷◌, length, ℤ, pos, ◌+ℤ◌, ◌-ℤ◌, ◌*ℤ◌, ◌≤ℤ◌, ◌==◌, int_le, slice_index_or, unsigned_abs}
 use Rattle.std.specs.Int.Signed.{non_neg}
-use Rattle.std.specs.List.{AllByRecursion as All}
+use Rattle.std.specs.List.{AllByRecursion}
 use Rattle.model.specs.Weighing.{total, weighed}
 
 -- a row: a coefficient for each figure, and a bound
@@ -19,7 +19,7 @@ Keeps weight row = weighed weight row.coefficients ≤ℤ (row.bound *ℤ pos (t
 
 -- a weight of d figures is admissible under the rows when it keeps each of them
 abbrev pub Admissible : ℕ → List Constraint → List ℕ → Type 0
-Admissible d rows weight = (length weight ≡ d) × (0 < total weight) × All (Keeps weight) rows
+Admissible d rows weight = (length weight ≡ d) × (0 < total weight) × AllByRecursion (Keeps weight) rows
 
 -- the effective coefficient of a row at a figure: the coefficient less the bound
 abbrev pub effective : Constraint → ℕ → ℤ

@@ -1,6 +1,6 @@
 -- A further row: one row more over any preference, which it contains.
 use Rattle.std.specs.Prelude.{◌≡◌, ℕ, ◌+◌, cond, ◌&&◌, List, [], ◌∷◌, map, length, ℤ, pos, ◌+ℤ◌, ◌*ℤ◌, slice_index_or}
-use Rattle.std.specs.List.{range_with_len, AllByRecursion as All}
+use Rattle.std.specs.List.{range_with_len, AllByRecursion}
 use Rattle.model.specs.Limits.{IsFigureCount, InRange, IsMultiplierCount, all_in_range}
 use Rattle.model.specs.Meaning.{Meaning, SampleOf}
 use Rattle.model.specs.Refusals.{line, end}
@@ -35,7 +35,7 @@ further_meaning below row sample =
 -- numbers that may be a further row: a coefficient for each figure and a bound, each within its limit, where there is room for one multiplier more
 pub record OneRow (below : Meaning) (numbers : List ℤ) : Type 0 where
   pub whole : length numbers ≡ below.dims + 1
-  pub limits : All InRowLimit numbers
+  pub limits : AllByRecursion InRowLimit numbers
   pub room : IsMultiplierCount (below.multipliers + 1)
 
 -- a further row is refused where the preference below has not 1 to 8 figures, the numbers may not be a row over it, or the sample is no proper weight or not admissible
@@ -50,4 +50,4 @@ further_grounds below numbers sample =
 pub record JoinsRows (d : ℕ) (row : Constraint) (rows : List Constraint) (sample : List ℕ) : Type 0 where
   pub admissible : (weight : List ℕ) → (further_meaning (rows_meaning d rows sample) row sample).admissible weight → (rows_meaning d (row ∷ rows) sample).admissible weight
   pub conversely : (weight : List ℕ) → (rows_meaning d (row ∷ rows) sample).admissible weight → (further_meaning (rows_meaning d rows sample) row sample).admissible weight
-  pub judged : (difference : List ℤ) (multiplier : ℕ) (multipliers : List ℕ) → All InRange (with_row row multiplier difference) → (further_meaning (rows_meaning d rows sample) row sample).judged difference (multiplier ∷ multipliers) ≡ (rows_meaning d (row ∷ rows) sample).judged difference (multiplier ∷ multipliers)
+  pub judged : (difference : List ℤ) (multiplier : ℕ) (multipliers : List ℕ) → AllByRecursion InRange (with_row row multiplier difference) → (further_meaning (rows_meaning d rows sample) row sample).judged difference (multiplier ∷ multipliers) ≡ (rows_meaning d (row ∷ rows) sample).judged difference (multiplier ∷ multipliers)

@@ -2,7 +2,7 @@
 use Rattle.std.specs.Prelude.{◌≡◌, ℕ, suc, ◌+◌, ◌-◌, ◌<◌, ◌≤◌, Bool, true, false, cond, List, [], ◌∷◌, length, take, drop, replicate, ℤ, pos, ◌+ℤ◌, ◌*ℤ◌, ◌≤ℤ◌, Decides, slice_index, slice_index_or, refl}
 use Rattle.std.proofs.Common.{sym, ap, ◌∙◌, subst, add-one, arith}
 use Rattle.std.proofs.Math.IntN.{+ℤ_idr, +ℤ_assoc, zero-*ℤ}
-use Rattle.std.specs.List.{AllByRecursion as All}
+use Rattle.std.specs.List.{AllByRecursion}
 use Rattle.std.proofs.lemmas.List.FromFn.{length-map-range_with_len, get_or-map-range_with_len, fill_by_all}
 use Rattle.std.proofs.lemmas.List.{ext_get_or, get_or-take, length-take-le, take_rest}
 use Rattle.std.proofs.lemmas.Bool.{cond-true, cond-false}
@@ -53,13 +53,13 @@ module _ (below : Meaning) (row : Constraint) (difference : List ℤ) where
   first_taken (m ∷ multipliers) some = refl
 
   -- within the range the preference below judges, with the other multipliers as they are lent
-  pub judged_below : (multipliers : List ℕ) (sum : List ℤ) → 0 < length multipliers → sum ≡ with_row row (slice_index multipliers 0) difference → All InRange sum → below.judged sum (take (length multipliers - 1) (drop 1 multipliers)) ≡ further_judged below row difference multipliers
+  pub judged_below : (multipliers : List ℕ) (sum : List ℤ) → 0 < length multipliers → sum ≡ with_row row (slice_index multipliers 0) difference → AllByRecursion InRange sum → below.judged sum (take (length multipliers - 1) (drop 1 multipliers)) ≡ further_judged below row difference multipliers
   judged_below multipliers sum some same range =
       ap (λ zs. below.judged zs (take (length multipliers - 1) (drop 1 multipliers))) same
       ∙ ap (below.judged (with_row row (slice_index multipliers 0) difference)) (take_rest multipliers 1)
-      ∙ sym (first_taken multipliers some ∙ cond-true _ _ _ ((Decides-in_range _).1 (subst (All InRange) same range)))
+      ∙ sym (first_taken multipliers some ∙ cond-true _ _ _ ((Decides-in_range _).1 (subst (AllByRecursion InRange) same range)))
 
-  pub judged_out : (multipliers : List ℕ) → 0 < length multipliers → (All InRange (with_row row (slice_index multipliers 0) difference) → ⊥) → Judgement.OutOfRange ≡ further_judged below row difference multipliers
+  pub judged_out : (multipliers : List ℕ) → 0 < length multipliers → (AllByRecursion InRange (with_row row (slice_index multipliers 0) difference) → ⊥) → Judgement.OutOfRange ≡ further_judged below row difference multipliers
   judged_out multipliers some out =
       sym (first_taken multipliers some ∙ cond-false _ _ _ (same_from_decides _ false (Decides-in_range (with_row row (slice_index multipliers 0) difference)) (Decides-no out)))
 
@@ -77,7 +77,7 @@ module _ (below : Meaning) (lawful : Lawful below) (row : Constraint) (sample : 
       let rest : Certificate below multipliers = record { count = omega (arith, certificate.count); limits = certificate.limits.1 } in
       with_row_weighed weight row m difference (omega (arith, lawful.width weight admissible.0, ranged.width)) admissible.1 (lawful.safe sum multipliers within rest parts.1 weight admissible.0)
 
-  further_zeros : (difference : List ℤ) → Ranged below.dims difference → All (λ entry. pos 0 ≤ℤ entry) difference → further_judged below row difference (replicate (below.multipliers + 1) 0) ≡ Judgement.Shown
+  further_zeros : (difference : List ℤ) → Ranged below.dims difference → AllByRecursion (λ entry. pos 0 ≤ℤ entry) difference → further_judged below row difference (replicate (below.multipliers + 1) 0) ≡ Judgement.Shown
   further_zeros difference ranged none =
       rw (add-one below.multipliers, with_row_none row difference)
       (cond-true (all_in_range difference) _ _ ((Decides-in_range difference).1 ranged.range) ∙ lawful.zeros difference ranged none)

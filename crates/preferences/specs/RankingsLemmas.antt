@@ -3,7 +3,7 @@ use Rattle.std.specs.Prelude.{◌≡◌, ℕ, zero, suc, ◌+◌, ◌-◌, ◌<�
 use Rattle.std.proofs.Common.{sym, ap, ◌∙◌, arith}
 use Rattle.std.proofs.lemmas.Int.{ints}
 use Rattle.std.proofs.Math.IntN.{+ℤ_idl, +ℤ_idr, +ℤ_assoc, *ℤ-zero}
-use Rattle.std.specs.List.{AllByRecursion as All}
+use Rattle.std.specs.List.{AllByRecursion}
 use Rattle.std.proofs.lemmas.List.{get_or-replicate, length-replicate}
 use Rattle.std.proofs.lemmas.Bool.Decides.{Decides-and, Decides-eqb, Decides-below_and, Decides-like}
 use Rattle.model.specs.Limits.{InLimit, Ranged}
@@ -41,7 +41,7 @@ falls_weighed weight difference falls each =
     rw (*ℤ-zero (pos (slice_index weight 0)), +ℤ_idl (weighed weight difference)) at start
 
 -- sums of entries that are not negative
-first_sum_nonneg : (entries : List ℤ) (n : ℕ) → All (λ entry. pos 0 ≤ℤ entry) entries → pos 0 ≤ℤ first_sum entries n
+first_sum_nonneg : (entries : List ℤ) (n : ℕ) → AllByRecursion (λ entry. pos 0 ≤ℤ entry) entries → pos 0 ≤ℤ first_sum entries n
 first_sum_nonneg entries zero all = omega (arith, ints)
 first_sum_nonneg [] (suc n) all = omega (arith, ints)
 first_sum_nonneg (entry ∷ entries) (suc n) all = let first = all.0 in let rest = first_sum_nonneg entries n all.1 in omega (arith, ints)
@@ -78,7 +78,7 @@ ranking_safe d difference multipliers shown weight ranked =
     let rule = (Decides-ranking_shows d difference multipliers).0 (shown_holds (ranking_shows d difference multipliers) shown) in
     falls_weighed weight difference ranked.2 (λ n below. rule.2 n (omega (arith, rule.0)))
 
-ranking_zeros : (d : ℕ) (difference : List ℤ) → Ranged d difference → All (λ entry. pos 0 ≤ℤ entry) difference → (ranking_meaning d).judged difference [] ≡ Judgement.Shown
+ranking_zeros : (d : ℕ) (difference : List ℤ) → Ranged d difference → AllByRecursion (λ entry. pos 0 ≤ℤ entry) difference → (ranking_meaning d).judged difference [] ≡ Judgement.Shown
 ranking_zeros d difference ranged none =
     sym (judged_shown _ (Decides-ranking_shows d difference []) (ranged.width, refl, λ n below. first_sum_nonneg difference (suc n) none))
 
@@ -98,7 +98,7 @@ ones_total : (d : ℕ) → total (replicate d 1) ≡ d
 ones_total zero = refl
 ones_total (suc d) = omega (arith, ones_total d)
 
-ones_limits : (d : ℕ) → All InLimit (replicate d 1)
+ones_limits : (d : ℕ) → AllByRecursion InLimit (replicate d 1)
 ones_limits zero = tt
 ones_limits (suc d) = (omega arith, ones_limits d)
 

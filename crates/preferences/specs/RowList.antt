@@ -1,6 +1,6 @@
 -- Rows that are given as one flat list of numbers: the coefficients of a row and then its bound, row after row.
 use Rattle.std.specs.Prelude.{◌≡◌, ℕ, zero, suc, ◌+◌, ◌/◌, ◌%◌, ◌≤◌, List, [], ◌∷◌, length, take, drop, ℤ, pos, slice_index_or}
-use Rattle.std.specs.List.{AllByRecursion as All}
+use Rattle.std.specs.List.{AllByRecursion}
 use Rattle.preferences.specs.Constraints.{Constraint, InRowLimit}
 
 -- the first row of a list
@@ -20,4 +20,4 @@ rows_in d numbers = rows_at_front d (length numbers / (d + 1)) numbers
 pub record IsRowList (d : ℕ) (numbers : List ℤ) : Type 0 where
   pub whole : length numbers % (d + 1) ≡ 0
   pub few : length numbers / (d + 1) ≤ 16
-  pub limits : All InRowLimit numbers
+  pub limits : AllByRecursion InRowLimit numbers

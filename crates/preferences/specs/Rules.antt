@@ -2,7 +2,7 @@
 use Rattle.std.specs.Prelude.{◌≡◌, ℕ, ◌<◌, List, length, replicate, ℤ, pos, ◌+ℤ◌, ◌≤ℤ◌, Decides, slice_index_or, refl}
 use Rattle.std.proofs.Common.{sym, arith}
 use Rattle.std.proofs.lemmas.Int.{ints}
-use Rattle.std.specs.List.{AllByRecursion as All}
+use Rattle.std.specs.List.{AllByRecursion}
 use Rattle.std.proofs.ByRecursion.{All-get_or, Decides-by_and}
 use Rattle.std.proofs.lemmas.List.{length-replicate}
 use Rattle.std.proofs.lemmas.Bool.Decides.{Decides-and, Decides-eqb, Decides-like}
@@ -19,7 +19,7 @@ use Rattle.preferences.specs.Judged.{Decides-none_negative, judged_shown, shown_
 pub Decides-keeps : (weight : List ℕ) (row : Constraint) → Decides (keeps weight row) (Keeps weight row)
 Decides-keeps weight row = Decides-le (weighed weight row.coefficients) _
 
-pub Decides-keep : (weight : List ℕ) (rows : List Constraint) → Decides (all_keep weight rows) (All (Keeps weight) rows)
+pub Decides-keep : (weight : List ℕ) (rows : List Constraint) → Decides (all_keep weight rows) (AllByRecursion (Keeps weight) rows)
 Decides-keep weight rows = Decides-by_and (keeps weight) (Keeps weight) (all_keep weight) (Decides-keeps weight) refl (λ _ _. refl) rows
 
 -- multipliers, one for each row, show a difference of d figures: the test's meaning
@@ -39,7 +39,7 @@ Decides-admits d rows weight some =
     (Decides-and _ _ (Decides-eqb (length weight) d) (Decides-keep weight rows))
 
 -- zeros show a difference without a negative entry
-rows_zeros : (d : ℕ) (rows : List Constraint) (sample : List ℕ) (difference : List ℤ) → Ranged d difference → All (λ entry. pos 0 ≤ℤ entry) difference → (rows_meaning d rows sample).judged difference (replicate (length rows) 0) ≡ Judgement.Shown
+rows_zeros : (d : ℕ) (rows : List Constraint) (sample : List ℕ) (difference : List ℤ) → Ranged d difference → AllByRecursion (λ entry. pos 0 ≤ℤ entry) difference → (rows_meaning d rows sample).judged difference (replicate (length rows) 0) ≡ Judgement.Shown
 rows_zeros d rows sample difference ranged none =
     sym (judged_shown (shows d rows difference zeros) (Decides-shows d rows difference zeros) (ranged.width, length-replicate (length rows) 0, each))
   where

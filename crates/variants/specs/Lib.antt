@@ -1,4 +1,5 @@
+pub mod CoverLaws
 pub mod Covers
 pub mod Either
-pub mod Sheets
 pub mod Marks
+pub mod Sheets

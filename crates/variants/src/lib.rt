@@ -1,4 +1,6 @@
 // The kinds of variant.
+#![tactic(auto)]
+
 mod cover_sheet;
 mod cover_terms;
 mod either_variant;

@@ -1,5 +1,5 @@
 ghost use Rattle.std.specs.Prelude.{◌≡◌, ◌+◌, ◌≤◌, length, take, pos, ◌*ℤ◌, Decides, MatchOption, slice_index_or, unsigned_abs};
-ghost use Rattle.std.specs.List.{AllByRecursion as All};
+ghost use Rattle.std.specs.List.{AllByRecursion};
 ghost use Rattle.model.specs.Limits.{InRange};
 ghost use Rattle.model.specs.Values.{entries_of, parts_of};
 ghost use Rattle.model.specs.Weighing.{total, weighed as weighed_by};
@@ -14,7 +14,7 @@ use model::{Difference, Weight, padded};
 impl Row {
     // The row at the front of a list of numbers: `dims` coefficients and a bound.
     pub(crate) fn read(dims: usize, numbers: &[i32]) -> Row
-        requires { (dims ≤ 8) × ((dims + 1 ≤ length numbers.now) × (All InRowLimit numbers.now)) }
+        requires { (dims ≤ 8) × ((dims + 1 ≤ length numbers.now) × (AllByRecursion InRowLimit numbers.now)) }
         ensures { constraint_of result ≡ row_at_front dims numbers.now }
     {
         let coefficients = padded(&numbers[0..dims], 0);
@@ -69,7 +69,7 @@ impl Row {
 
     // The difference with a multiple of the effective coefficients added at each figure, none where that is beyond the range.
     pub(crate) fn added_to(&self, difference: &Difference, multiplier: u32) -> Option<Difference>
-        ensures { MatchOption result (All InRange (with_row (constraint_of self.now) multiplier (entries_of difference.now)) → ⊥) (λ sum. entries_of sum ≡ with_row (constraint_of self.now) multiplier (entries_of difference.now)) }
+        ensures { MatchOption result (AllByRecursion InRange (with_row (constraint_of self.now) multiplier (entries_of difference.now)) → ⊥) (λ sum. entries_of sum ≡ with_row (constraint_of self.now) multiplier (entries_of difference.now)) }
     {
         let entries = difference.entries();
         let sums = self.sums(difference, multiplier);

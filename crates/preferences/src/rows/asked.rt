@@ -1,5 +1,5 @@
 ghost use Rattle.std.specs.Prelude.{◌≡◌, ℕ, ◌*◌, ◌<◌, ◌≤◌, map, length, pos, ◌+ℤ◌, ◌≤ℤ◌, Decides, slice_index_or, unsigned_abs};
-ghost use Rattle.std.specs.List.{AllByRecursion as All};
+ghost use Rattle.std.specs.List.{AllByRecursion};
 ghost use Rattle.model.specs.Limits.{InRange};
 ghost use Rattle.model.specs.Values.{parts_of};
 ghost use Rattle.preferences.specs.Constraints.{Keeps, lift as lift_of};
@@ -53,7 +53,7 @@ impl Preference for Rows {
 
 // Whether the weight keeps every row.
 fn all_keep(rows: &[Row], weight: &Weight) -> bool
-    ensures { Decides result (All (Keeps (parts_of weight.now)) (map constraint_of rows.now)) }
+    ensures { Decides result (AllByRecursion (Keeps (parts_of weight.now)) (map constraint_of rows.now)) }
 {
     for row in rows {
         if !row.keeps(weight) {
@@ -78,7 +78,7 @@ fn lift(rows: &[Row], multipliers: &[u32], index: usize) -> i64
 
 // Whether at each figure the difference and what the multipliers add are together not negative.
 fn none_negative(rows: &[Row], entries: &[i64], multipliers: &[u32]) -> bool
-    requires { (length rows.now ≤ 16) × ((length multipliers.now ≡ length rows.now) × (All InRange entries.now)) }
+    requires { (length rows.now ≤ 16) × ((length multipliers.now ≡ length rows.now) × (AllByRecursion InRange entries.now)) }
     ensures { Decides result ((i : ℕ) → i < length entries.now → pos 0 ≤ℤ (slice_index_or entries.now i (pos 0) +ℤ lift_of (map constraint_of rows.now) multipliers.now i)) }
 {
     for (index, entry) in entries.iter().enumerate() {

@@ -1,5 +1,5 @@
 ghost use Rattle.std.specs.Prelude.{◌≡◌, ◌≤◌, map, IfOk, Decides};
-ghost use Rattle.std.specs.List.{AllByRecursion as All};
+ghost use Rattle.std.specs.List.{AllByRecursion};
 ghost use Rattle.model.specs.Values.{parts_of};
 ghost use Rattle.preferences.specs.Constraints.{InRowLimit, all_keep};
 ghost use Rattle.preferences.specs.RowList.{IsRowList, rows_in};
@@ -22,7 +22,7 @@ pub(super) fn is_row_list(dims: usize, numbers: &[i32]) -> bool
 }
 
 pub(crate) fn within_row_limit(numbers: &[i32]) -> bool
-    ensures { Decides result (All InRowLimit numbers.now) }
+    ensures { Decides result (AllByRecursion InRowLimit numbers.now) }
 {
     for number in numbers {
         if number.unsigned_abs() > 10_000 {
@@ -34,7 +34,7 @@ pub(crate) fn within_row_limit(numbers: &[i32]) -> bool
 
 // Whether the weight keeps every row of the list.
 pub(super) fn keeps_list(dims: usize, numbers: &[i32], weight: &Weight) -> bool
-    requires { (dims ≤ 8) × (All InRowLimit numbers.now) }
+    requires { (dims ≤ 8) × (AllByRecursion InRowLimit numbers.now) }
     ensures { result ≡ all_keep (parts_of weight.now) (rows_in dims numbers.now) }
 {
     let width = dims + 1;
@@ -51,7 +51,7 @@ pub(super) fn keeps_list(dims: usize, numbers: &[i32], weight: &Weight) -> bool
 
 // The rows of the list.
 pub(super) fn read_rows(heap: Global, dims: usize, numbers: &[i32]) -> Result<Vec<Row>, AllocError>
-    requires { (dims ≤ 8) × (All InRowLimit numbers.now) }
+    requires { (dims ≤ 8) × (AllByRecursion InRowLimit numbers.now) }
     ensures { IfOk result (λ rows. map constraint_of rows.items ≡ rows_in dims numbers.now) }
 {
     let width = dims + 1;

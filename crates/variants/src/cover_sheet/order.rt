@@ -1,9 +1,6 @@
 ghost use Rattle.std.specs.Prelude.{◌≡◌};
 ghost use Rattle.variants.specs.Covers.{cover_figures, cover_better, marks_set, set_too};
-ghost use Rattle.std.proofs.Common.{arith};
-ghost use Rattle.std.proofs.lemmas.List.Sums.{count_by-le-length};
-ghost use Rattle.std.proofs.lemmas.Bool.{and_parts, leb-true};
-ghost use Rattle.variants.specs.Marks.{set_too_fewer};
+ghost use Rattle.variants.specs.CoverLaws.{cover_limits, cover_order};
 
 use crate::cover_sheet::CoverSheet;
 use model::Variant;
@@ -14,16 +11,9 @@ impl Variant for CoverSheet {
 
     ghost better = { λ x y. cover_better x.terms y.terms };
 
-    ghost limits = { λ sheet. let few = count_by-le-length (λ mark. mark) sheet.terms.exclusions in omega arith };
+    ghost limits = { λ sheet. cover_limits sheet.terms sheet.premium sheet.share sheet.days sheet.marks };
 
-    ghost order = { λ x y better.
-        let premium = and_parts _ _ better in
-        let share = and_parts _ _ premium.1 in
-        let days = and_parts _ _ share.1 in
-        let sum = and_parts _ _ days.1 in
-        let marks = set_too_fewer x.terms.exclusions y.terms.exclusions sum.1 in
-        let no_less = leb-true _ _ sum.0 in
-        (leb-true _ _ premium.0, (leb-true _ _ share.0, (omega arith, (leb-true _ _ days.0, (marks, tt))))) };
+    ghost order = { λ x y better. cover_order x.terms y.terms better };
 
     fn count(&self) -> usize {
         5

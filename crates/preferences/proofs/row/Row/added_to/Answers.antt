@@ -1,5 +1,5 @@
 use Rattle.std.proofs.Common.{◌≡◌, ◌-◌, length, take, sym, ap, ◌∙◌, subst, arith}
-use Rattle.std.specs.List.{AllByRecursion as All}
+use Rattle.std.specs.List.{AllByRecursion}
 use Rattle.model.specs.Limits.{InRange}
 use Rattle.model.specs.Values.{entries_of}
 use Rattle.model.proofs.Asked.{difference_unopposed}
@@ -16,4 +16,4 @@ returns-in-Err c within =
     let count : length c.entries-entries.result.now - 0 ≡ length (entries_of difference) = omega (arith, ap length c.entries-entries.ensures) in
     let lent = ap (λ n. take n sums) count ∙ c.sums-sums.ensures in
     let long = ap length lent ∙ with_row-length row c.args.multiplier (entries_of difference) ∙ entries_count difference in
-    difference_unopposed (take (length c.entries-entries.result.now - 0) sums) (omega (arith, long, difference.least), omega (arith, long, difference.most)) (subst (All InRange) (sym lent) within) c.in-Err.field-0 c.in-Err.ensures.meets
+    difference_unopposed (take (length c.entries-entries.result.now - 0) sums) (omega (arith, long, difference.least), omega (arith, long, difference.most)) (subst (AllByRecursion InRange) (sym lent) within) c.in-Err.field-0 c.in-Err.ensures.meets

@@ -2,7 +2,7 @@ use Rattle.std.proofs.Common.{◌≡◌, ℕ, ◌-◌, ◌<◌, ◌≤◌, List,
 use borrow.Author.Differences.{ints}
 use Rattle.std.proofs.ByRecursion.{All-get_or, All-take}
 use Rattle.std.proofs.lemmas.List.{length-take-le}
-use Rattle.std.specs.List.{AllByRecursion as All}
+use Rattle.std.specs.List.{AllByRecursion}
 use Rattle.model.specs.Each.{front_each, front_filled}
 use Rattle.preferences.specs.Constraints.{InRowLimit}
 use Rattle.preferences.proofs.Lists.{same_constraint}
@@ -16,7 +16,7 @@ front dims numbers stored n few long same =
     let filled : stored ≡ take 8 (take dims numbers) ++ replicate n (pos 0) = same ∙ ap (λ k. take 8 (take k numbers) ++ replicate n (pos 0)) all in
     ap (λ k. take k stored) (sym count) ∙ front_filled (take dims numbers) stored n (pos 0) (omega arith) filled
 
-limits : (dims : ℕ) (numbers stored : List ℤ) → dims ≤ length numbers → All InRowLimit numbers → take dims stored ≡ take dims numbers → (k : ℕ) → k < dims → InRowLimit (get_or stored k (pos 0))
+limits : (dims : ℕ) (numbers stored : List ℤ) → dims ≤ length numbers → AllByRecursion InRowLimit numbers → take dims stored ≡ take dims numbers → (k : ℕ) → k < dims → InRowLimit (get_or stored k (pos 0))
 limits dims numbers stored long all same k below =
     let count : length (take dims numbers) ≡ dims = length-take-le dims numbers long in
     front_each InRowLimit (take dims numbers) stored (pos 0) (ap (λ n. take n stored) count ∙ same) (All-take InRowLimit dims numbers all) k (omega arith)

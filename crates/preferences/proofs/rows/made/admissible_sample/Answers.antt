@@ -1,6 +1,6 @@
 use Rattle.std.proofs.Common.{◌<◌, sym, ap, ◌∙◌, subst}
 use borrow.Author.Tests.{both_ways}
-use Rattle.std.specs.List.{AllByRecursion as All}
+use Rattle.std.specs.List.{AllByRecursion}
 use Rattle.model.specs.Limits.{InLimit, Proper}
 use Rattle.model.specs.Weighing.{total}
 use Rattle.model.proofs.Asked.{proper_made}
@@ -25,5 +25,5 @@ returns c =
     let weight = c.in-Ok.weight in
     let same = c.in-Ok.ensures.1 in
     let says = c.keeps_list.ensures ∙ ap (λ w. all_keep w rows) same in
-    let proper : Proper c.args.dims c.args.sample.now = record { width = c.if-sample-dims.false; limits = subst (All InLimit) same (parts_limits weight); some = subst (λ w. 0 < total w) same weight.some } in
+    let proper : Proper c.args.dims c.args.sample.now = record { width = c.if-sample-dims.false; limits = subst (AllByRecursion InLimit) same (parts_limits weight); some = subst (λ w. 0 < total w) same weight.some } in
     (same, record { proper = proper; admissible = (proper.width, proper.some, (Decides-keep c.args.sample.now rows).0 (sym says ∙ c.if-not-keeps_list.false)) })

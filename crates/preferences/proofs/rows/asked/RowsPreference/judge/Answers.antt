@@ -1,6 +1,6 @@
 use Rattle.std.proofs.Common.{◌≡◌, ℕ, ◌<◌, Bool, List, map, length, get_or, ℤ, pos, ◌+ℤ◌, ◌≤ℤ◌, Decides, sym, ap, ◌∙◌, subst, arith, rules}
 use Rattle.std.proofs.lemmas.Bool.Decides.{not_from_Decides}
-use Rattle.std.specs.List.{AllByRecursion as All}
+use Rattle.std.specs.List.{AllByRecursion}
 use Rattle.model.specs.Limits.{InRange}
 use Rattle.model.specs.Values.{entries_of}
 use Rattle.model.specs.Stored.{entries_ranged}
@@ -25,7 +25,7 @@ returns-then-entries-self c =
 
 pub none_negative-shown-requires : goal.none_negative-shown-requires
 none_negative-shown-requires c =
-    let range : All InRange c.entries-entries.result.now = rw c.entries-entries.ensures (entries_ranged c.args.difference.now).range in
+    let range : AllByRecursion InRange c.entries-entries.result.now = rw c.entries-entries.ensures (entries_ranged c.args.difference.now).range in
     (omega (arith, c.as_slice.ensures.len, c.args.self.now.few), (omega (arith, c.as_slice.ensures.len, constraints_count c.args.self.now), search rules))
 
 pub returns-then-shown : goal.returns-then-shown
