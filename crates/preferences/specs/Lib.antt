@@ -1,13 +1,11 @@
 pub mod Cases
 pub mod Constraints
+pub mod FurtherRowLaws
 pub mod FurtherRows
 pub mod Judging
 pub mod Making
+pub mod Propositions
 pub mod Rankings
 pub mod RowList
 pub mod Stored
-pub mod FurtherRowsLemmas
-pub mod Certificates
-pub mod Rules
-pub mod Judged
-pub mod RankingsLemmas
+pub mod StoredRow

@@ -1,4 +1,6 @@
 // The kinds of preference.
+#![tactic(auto)]
+
 mod cases;
 mod further_row;
 mod ranking;

@@ -1,5 +1,5 @@
 -- Cover sheets keep the laws of a kind of variant.
-use Rattle.std.specs.Prelude.{◌≡◌, ◌≤◌, true, length, nat_le}
+use Rattle.std.specs.Prelude.{◌≡◌, ◌≤◌, true, length}
 use Rattle.std.proofs.Common.{arith}
 use Rattle.std.proofs.lemmas.Bool.{and_parts, leb-true}
 use Rattle.std.proofs.lemmas.List.Sums.{count_by-le-length}

@@ -1,15 +1,15 @@
 ghost use Rattle.model.specs.Values.{parts_of};
+ghost use Rattle.preferences.specs.FurtherRowLaws.{further_lawful};
 ghost use Rattle.preferences.specs.FurtherRows.{further_meaning};
-ghost use Rattle.preferences.specs.Stored.{constraint_of};
-ghost use Rattle.preferences.specs.FurtherRowsLemmas.{further_lawful};
+ghost use Rattle.preferences.specs.StoredRow.{constraint_of};
 
 use crate::further_row::FurtherRow;
 use model::{Difference, Judgement, Preference, Weight};
 
 impl<P: Preference> Preference for FurtherRow<P> {
-    ghost meaning = { λ further. further_meaning (P.Preference.meaning further.below) (constraint_of further.row) (parts_of further.sample) };
+    ghost meaning = { λ further. further_meaning (P.meaning further.below) (constraint_of further.row) (parts_of further.sample) };
 
-    ghost lawful = { λ further. further_lawful (P.Preference.meaning further.below) (P.Preference.lawful further.below) (constraint_of further.row) (parts_of further.sample) };
+    ghost lawful = { λ further. further_lawful (P.meaning further.below) (P.lawful further.below) (constraint_of further.row) (parts_of further.sample) further.judges };
 
     fn dims(&self) -> usize {
         self.below.dims()

@@ -5,7 +5,8 @@ ghost use Rattle.model.specs.Values.{parts_of};
 ghost use Rattle.preferences.specs.FurtherRows.{further_meaning, further_grounds};
 ghost use Rattle.preferences.specs.Making.{Sampled};
 ghost use Rattle.preferences.specs.RowList.{row_at_front};
-ghost use Rattle.preferences.specs.Stored.{constraint_of, Tops};
+ghost use Rattle.preferences.specs.Stored.{Tops};
+ghost use Rattle.preferences.specs.StoredRow.{constraint_of};
 
 use crate::further_row::FurtherRow;
 use crate::row::Row;
@@ -19,7 +20,7 @@ impl<P: Preference> FurtherRow<P> {
         numbers: &[i32],
         sample: &[u32],
     ) -> Result<FurtherRow<P>, HandedBack<P, Refusal>>
-        ensures { HandsBack (further_grounds (P.Preference.meaning below) numbers.now sample.now) below result (Tops (P.Preference.meaning below).dims below numbers.now sample.now) }
+        ensures { HandsBack (further_grounds (P.meaning below) numbers.now sample.now) below result (Tops (P.meaning below).dims below numbers.now sample.now) }
     {
         match row_and_sample(&below, numbers, sample) {
             Ok(checked) => {
@@ -40,7 +41,7 @@ fn row_and_sample<P: Preference>(
     numbers: &[i32],
     sample: &[u32],
 ) -> Result<(Row, Weight), Refusal>
-    ensures { Checked (further_grounds (P.Preference.meaning below.now) numbers.now sample.now) result (λ made. (constraint_of made.0 ≡ row_at_front (P.Preference.meaning below.now).dims numbers.now) × (parts_of made.1 ≡ sample.now)) }
+    ensures { Checked (further_grounds (P.meaning below.now) numbers.now sample.now) result (λ made. (constraint_of made.0 ≡ row_at_front (P.meaning below.now).dims numbers.now) × (parts_of made.1 ≡ sample.now)) }
 {
     let dims = below.dims();
     if dims < 1 || dims > 8 {
@@ -61,8 +62,8 @@ fn row_and_sample<P: Preference>(
 
 // The sample as a weight, where it is proper, admissible below, and keeps the row.
 fn admissible_sample<P: Preference>(below: &P, row: &Row, sample: &[u32]) -> Option<Weight>
-    requires { IsFigureCount (P.Preference.meaning below.now).dims }
-    ensures { Sampled (further_meaning (P.Preference.meaning below.now) (constraint_of row.now) sample.now) sample.now result }
+    requires { IsFigureCount (P.meaning below.now).dims }
+    ensures { Sampled (further_meaning (P.meaning below.now) (constraint_of row.now) sample.now) sample.now result }
 {
     let weight = Weight::of_width(below.dims(), sample)?;
     if !below.admits(&weight) {

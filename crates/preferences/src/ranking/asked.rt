@@ -1,7 +1,6 @@
 ghost use Rattle.std.specs.Prelude.{ℕ, suc, ◌<◌, length, pos, ◌≤ℤ◌, Decides};
 ghost use Rattle.model.specs.Values.{entries_of};
 ghost use Rattle.preferences.specs.Rankings.{ranking_meaning, NeverRises, first_sum};
-ghost use Rattle.preferences.specs.RankingsLemmas.{ranking_lawful};
 
 use crate::ranking::Ranking;
 use model::{Difference, Judgement, Preference, Weight};
@@ -12,7 +11,7 @@ static ONES: [u32; 8] = [1; 8];
 impl Preference for Ranking {
     ghost meaning = { λ ranking. ranking_meaning ranking.dims };
 
-    ghost lawful = { λ ranking. ranking_lawful ranking.dims };
+    ghost lawful = { λ ranking. ranking.lawful };
 
     fn dims(&self) -> usize {
         self.dims

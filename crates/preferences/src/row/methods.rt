@@ -6,7 +6,7 @@ ghost use Rattle.model.specs.Weighing.{total, weighed as weighed_by};
 ghost use Rattle.preferences.specs.Constraints.{InRowLimit, Keeps, effective as effective_of};
 ghost use Rattle.preferences.specs.FurtherRows.{with_row};
 ghost use Rattle.preferences.specs.RowList.{row_at_front};
-ghost use Rattle.preferences.specs.Stored.{constraint_of};
+ghost use Rattle.preferences.specs.StoredRow.{constraint_of};
 
 use crate::row::Row;
 use model::{Difference, Weight, padded};

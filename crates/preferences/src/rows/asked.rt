@@ -3,8 +3,8 @@ ghost use Rattle.std.specs.List.{AllByRecursion};
 ghost use Rattle.model.specs.Limits.{InRange};
 ghost use Rattle.model.specs.Values.{parts_of};
 ghost use Rattle.preferences.specs.Constraints.{Keeps, lift as lift_of};
-ghost use Rattle.preferences.specs.Stored.{constraint_of, meaning_of, constraints_of};
-ghost use Rattle.preferences.specs.Rules.{rows_lawful};
+ghost use Rattle.preferences.specs.Stored.{meaning_of};
+ghost use Rattle.preferences.specs.StoredRow.{constraint_of};
 
 use crate::row::Row;
 use crate::rows::Rows;
@@ -13,7 +13,7 @@ use model::{Difference, Judgement, Preference, Weight};
 impl Preference for Rows {
     ghost meaning = { meaning_of };
 
-    ghost lawful = { λ rows. rows_lawful rows.dims (constraints_of rows) (parts_of rows.sample) };
+    ghost lawful = { λ rows. rows.lawful };
 
     fn dims(&self) -> usize {
         self.dims

@@ -3,7 +3,7 @@ ghost use Rattle.std.specs.List.{AllByRecursion};
 ghost use Rattle.model.specs.Values.{parts_of};
 ghost use Rattle.preferences.specs.Constraints.{InRowLimit, all_keep};
 ghost use Rattle.preferences.specs.RowList.{IsRowList, rows_in};
-ghost use Rattle.preferences.specs.Stored.{constraint_of};
+ghost use Rattle.preferences.specs.StoredRow.{constraint_of};
 
 use crate::row::Row;
 use model::Weight;

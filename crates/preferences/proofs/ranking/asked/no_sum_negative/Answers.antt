@@ -3,7 +3,7 @@ use borrow.Author.Differences.{ints}
 use Rattle.model.specs.Values.{entries_of}
 use Rattle.model.specs.Each.{Decides-yes, Decides-no}
 use Rattle.model.specs.Stored.{lent_entries_few, lent_range}
-use Rattle.preferences.specs.RankingsLemmas.{first_sum-suc}
+use Rattle.preferences.proofs.Rankings.{first_sum-suc}
 use Rattle.preferences.proofs.ranking.asked.no_sum_negative.Goals as goal
 
 pub overflow_add-sum : goal.overflow_add-sum

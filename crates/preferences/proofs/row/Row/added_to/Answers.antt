@@ -4,8 +4,8 @@ use Rattle.model.specs.Limits.{InRange}
 use Rattle.model.specs.Values.{entries_of}
 use Rattle.model.proofs.Asked.{difference_unopposed}
 use Rattle.model.specs.Stored.{entries_count}
-use Rattle.preferences.specs.Stored.{constraint_of}
-use Rattle.preferences.specs.FurtherRowsLemmas.{with_row-length}
+use Rattle.preferences.specs.StoredRow.{constraint_of}
+use Rattle.preferences.proofs.FurtherRows.{with_row-length}
 use Rattle.preferences.proofs.row.Row.added_to.Goals as goal
 
 pub returns-in-Err : goal.returns-in-Err

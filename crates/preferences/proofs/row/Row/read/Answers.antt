@@ -26,7 +26,7 @@ invariant_of-result c =
     let numbers = c.args.numbers.now in
     let limit : nat_abs (get_or numbers c.args.dims (pos 0)) ≤ 10000 = All-get_or InRowLimit numbers c.args.dims (pos 0) (omega arith) c.requires.1.1 in
     let same = front c.args.dims numbers c.padded-coefficients.result _ c.requires.0 (omega arith) c.padded-coefficients.ensures in
-    (search rules, (search rules, (limits c.args.dims numbers c.padded-coefficients.result (omega arith) c.requires.1.1 same, (omega (arith, ints), tt))))
+    record { most = search rules; stored = search rules; limits = limits c.args.dims numbers c.padded-coefficients.result (omega arith) c.requires.1.1 same; bounded = omega (arith, ints) }
 
 pub returns : goal.returns
 returns c =

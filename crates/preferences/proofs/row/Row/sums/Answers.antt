@@ -4,8 +4,8 @@ use Rattle.model.proofs.Machine.{Added, added, same_back, same_sum}
 use Rattle.model.specs.Stored.{lent_entries_few, lent_range}
 use Rattle.preferences.specs.Constraints.{effective}
 use Rattle.preferences.specs.FurtherRows.{with_row}
-use Rattle.preferences.specs.Stored.{constraint_of}
-use Rattle.preferences.specs.FurtherRowsLemmas.{with_row_filled}
+use Rattle.preferences.specs.StoredRow.{constraint_of}
+use Rattle.preferences.proofs.FurtherRows.{with_row_filled}
 use Rattle.preferences.proofs.row.Row.sums.Goals as goal
 
 -- the entry, as the machine has it
@@ -23,7 +23,7 @@ pub overflow_mul-sums : goal.overflow_mul-sums
 overflow_mul-sums c = (step c).product
 
 pub overflow_add-sums : goal.overflow_add-sums
-overflow_add-sums c = (step c).ranges
+overflow_add-sums c = (step c).fits
 
 pub loop-index-preserved : goal.loop-index-preserved
 loop-index-preserved c =

@@ -1,6 +1,6 @@
 use Rattle.std.proofs.Common.{◌≡◌, ℕ, ◌<◌, length, get_or, pos, ◌+ℤ◌, ◌*ℤ◌}
 use Rattle.preferences.specs.Constraints.{effective}
-use Rattle.preferences.specs.Stored.{constraint_of}
+use Rattle.preferences.specs.StoredRow.{constraint_of}
 use Rattle.preferences.proofs.row.Row.sums.Given as goal
 
 abbrev pub invariant-loop-index : goal.invariant-loop-index

@@ -4,7 +4,7 @@ use Rattle.model.specs.Weighing.{weighed}
 use Rattle.model.proofs.Machine.{Added, added}
 use Rattle.model.specs.Stored.{lent_few, lent_limit}
 use Rattle.model.proofs.Sums.{weighed_more}
-use Rattle.preferences.specs.Stored.{constraint_of}
+use Rattle.preferences.specs.StoredRow.{constraint_of}
 use Rattle.preferences.proofs.row.Row.weighed.Goals as goal
 
 -- one product more

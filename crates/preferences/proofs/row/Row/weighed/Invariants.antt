@@ -1,6 +1,6 @@
 use Rattle.std.proofs.Common.{◌≡◌, ◌*◌, ◌≤◌, take, nat_abs}
 use Rattle.model.specs.Weighing.{weighed}
-use Rattle.preferences.specs.Stored.{constraint_of}
+use Rattle.preferences.specs.StoredRow.{constraint_of}
 use Rattle.preferences.proofs.row.Row.weighed.Given as goal
 
 abbrev pub invariant-loop-index : goal.invariant-loop-index

@@ -5,7 +5,7 @@ use Rattle.std.proofs.lemmas.Bool.Decides.{not_from_Decides}
 use Rattle.model.specs.Values.{parts_of}
 use Rattle.model.specs.Each.{stops, ends, read_mapped}
 use Rattle.preferences.specs.Constraints.{Keeps}
-use Rattle.preferences.specs.Stored.{constraint_of}
+use Rattle.preferences.specs.StoredRow.{constraint_of}
 use Rattle.preferences.proofs.rows.asked.all_keep.Goals as goal
 
 pub returns-then-not-keeps : goal.returns-then-not-keeps

@@ -3,14 +3,14 @@ use Rattle.std.proofs.lemmas.List.{length-map, take_all}
 use Rattle.model.specs.Each.{read_mapped}
 use Rattle.model.proofs.Machine.{Added, added, same_sum}
 use Rattle.preferences.specs.Constraints.{effective, lift}
-use Rattle.preferences.specs.Stored.{constraint_of}
+use Rattle.preferences.specs.StoredRow.{constraint_of}
 use Rattle.preferences.proofs.Lists.{lift_more}
 use Rattle.preferences.proofs.rows.asked.lift.Goals as goal
 
 -- one row more
 step : (c : goal.After-effective) (sum : ℤ) → sum ≡ c.loop-place.sum → nat_abs sum ≤ 85899345920000 * c.loop-place.place → Added sum c.from.result c.effective.result (85899345920000 * c.loop-place.place + 4294967296 * 20000)
 step c sum is size =
-    let multiplier : nat_abs c.from.result ≤ 4294967296 = rw c.from.ensures (omega (arith, (c.type-inv.multipliers c.loop-place.place).fits)) in
+    let multiplier : nat_abs c.from.result ≤ 4294967296 = rw c.from.ensures (omega (arith, (c.type_inv.multipliers c.loop-place.place).fits)) in
     added sum c.from.result c.effective.result (85899345920000 * c.loop-place.place) 4294967296 20000 size multiplier c.effective.ensures.size (lit< tt) (lit< tt) (omega (arith, c.requires.0))
 
 pub overflow_mul-sum : goal.overflow_mul-sum

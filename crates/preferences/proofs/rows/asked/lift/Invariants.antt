@@ -1,6 +1,6 @@
 use Rattle.std.proofs.Common.{◌≡◌, ◌*◌, ◌≤◌, map, take, nat_abs}
 use Rattle.preferences.specs.Constraints.{lift}
-use Rattle.preferences.specs.Stored.{constraint_of}
+use Rattle.preferences.specs.StoredRow.{constraint_of}
 use Rattle.preferences.proofs.rows.asked.lift.Given as goal
 
 abbrev pub invariant-loop-place : goal.invariant-loop-place

@@ -3,7 +3,7 @@ use Rattle.std.proofs.ByRecursion.{All-drop}
 use Rattle.model.specs.Values.{parts_of}
 use Rattle.preferences.specs.Constraints.{InRowLimit, all_keep}
 use Rattle.preferences.specs.RowList.{rows_in}
-use Rattle.preferences.specs.Stored.{constraint_of}
+use Rattle.preferences.specs.StoredRow.{constraint_of}
 use Rattle.preferences.proofs.Lists.{front_read, cut_more, keep_first, rows_in_none}
 use Rattle.preferences.proofs.rows.flat.keeps_list.Goals as goal
 

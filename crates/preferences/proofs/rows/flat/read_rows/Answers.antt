@@ -3,7 +3,7 @@ use Rattle.std.proofs.ByRecursion.{All-drop}
 use Rattle.std.proofs.lemmas.List.{append_assoc, append-nil, map_push}
 use Rattle.preferences.specs.Constraints.{InRowLimit}
 use Rattle.preferences.specs.RowList.{rows_in}
-use Rattle.preferences.specs.Stored.{constraint_of}
+use Rattle.preferences.specs.StoredRow.{constraint_of}
 use Rattle.preferences.proofs.Lists.{front_read, cut_more, rows_in_none}
 use Rattle.preferences.proofs.rows.flat.read_rows.Goals as goal
 

@@ -2,7 +2,7 @@ use Rattle.std.proofs.Common.{◌≡◌, ◌++◌, map, length, vec_items}
 use Rattle.std.specs.List.{AllByRecursion}
 use Rattle.preferences.specs.Constraints.{InRowLimit}
 use Rattle.preferences.specs.RowList.{rows_in}
-use Rattle.preferences.specs.Stored.{constraint_of}
+use Rattle.preferences.specs.StoredRow.{constraint_of}
 use Rattle.preferences.proofs.rows.flat.read_rows.Given as goal
 
 abbrev pub invariant-loop-rest : goal.invariant-loop-rest

@@ -7,7 +7,7 @@ use Rattle.model.proofs.Asked.{proper_made}
 use Rattle.model.specs.Stored.{parts_limits}
 use Rattle.preferences.specs.Constraints.{all_keep}
 use Rattle.preferences.specs.RowList.{rows_in}
-use Rattle.preferences.specs.Rules.{Decides-keep}
+use Rattle.preferences.proofs.Rules.{Decides-keep}
 use Rattle.preferences.proofs.rows.made.admissible_sample.Goals as goal
 
 pub returns-in_default : goal.returns-in_default

@@ -1,8 +1,8 @@
 use Rattle.std.proofs.Common.{◌∙◌, rules}
 use Rattle.model.specs.Values.{entries_of}
 use Rattle.model.specs.Stored.{entries_ranged}
-use Rattle.preferences.specs.Stored.{constraint_of}
-use Rattle.preferences.specs.FurtherRowsLemmas.{judged_below, judged_out}
+use Rattle.preferences.specs.StoredRow.{constraint_of}
+use Rattle.preferences.proofs.FurtherRows.{judged_below, judged_out}
 use Rattle.preferences.proofs.further_row.asked.FurtherRowPreference.judge.Goals as goal
 
 pub returns-in-Some : goal.returns-in-Some

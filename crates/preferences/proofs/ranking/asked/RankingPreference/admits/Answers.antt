@@ -1,8 +1,8 @@
 use Rattle.std.proofs.Common.{◌≡◌, length, Decides, sym, ap, ◌∙◌, subst}
 use Rattle.model.specs.Values.{parts_of}
 use Rattle.preferences.specs.Rankings.{NeverRises, never_rises}
-use Rattle.preferences.specs.Judged.{width_and}
-use Rattle.preferences.specs.RankingsLemmas.{Decides-never_rises}
+use Rattle.preferences.proofs.Judged.{width_and}
+use Rattle.preferences.proofs.Rankings.{Decides-never_rises}
 use Rattle.preferences.proofs.ranking.asked.RankingPreference.admits.Goals as goal
 
 pub returns : goal.returns

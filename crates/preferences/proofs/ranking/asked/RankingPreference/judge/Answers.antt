@@ -2,8 +2,8 @@ use Rattle.std.proofs.Common.{◌≡◌, length, sym, ap, ◌∙◌, arith}
 use Rattle.std.proofs.lemmas.Bool.{eqb-true}
 use Rattle.std.proofs.lemmas.Bool.Decides.{not_from_Decides}
 use Rattle.model.specs.Values.{entries_of}
-use Rattle.preferences.specs.Judged.{judged_shown, judged_not_shown}
-use Rattle.preferences.specs.RankingsLemmas.{Decides-ranking_shows}
+use Rattle.preferences.proofs.Judged.{judged_shown, judged_not_shown}
+use Rattle.preferences.proofs.Rankings.{Decides-ranking_shows}
 use Rattle.preferences.proofs.ranking.asked.RankingPreference.judge.Goals as goal
 
 pub returns-then-no_sum_negative : goal.returns-then-no_sum_negative

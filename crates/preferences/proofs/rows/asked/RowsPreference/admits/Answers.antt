@@ -4,8 +4,9 @@ use Rattle.std.proofs.lemmas.Bool.Decides.{same_from_decides}
 use Rattle.std.specs.List.{AllByRecursion}
 use Rattle.model.specs.Values.{parts_of}
 use Rattle.preferences.specs.Constraints.{Keeps, all_keep}
-use Rattle.preferences.specs.Stored.{constraint_of, constraints_of}
-use Rattle.preferences.specs.Rules.{Decides-keep}
+use Rattle.preferences.specs.Stored.{constraints_of}
+use Rattle.preferences.specs.StoredRow.{constraint_of}
+use Rattle.preferences.proofs.Rules.{Decides-keep}
 use Rattle.preferences.proofs.rows.asked.RowsPreference.admits.Goals as goal
 
 pub returns : goal.returns

@@ -13,8 +13,8 @@ use Rattle.model.specs.declared.judgement.Judgement.{Judgement}
 use Rattle.model.specs.Each.{Decides-le}
 use Rattle.preferences.specs.Constraints.{Constraint, Keeps, Admissible, lift, keeps, all_keep, admits, shows}
 use Rattle.preferences.specs.Making.{rows_meaning}
-use Rattle.preferences.specs.Certificates.{shown_weighed, lift_zeros}
-use Rattle.preferences.specs.Judged.{Decides-none_negative, judged_shown, shown_holds}
+use Rattle.preferences.proofs.Certificates.{shown_weighed, lift_zeros}
+use Rattle.preferences.proofs.Judged.{Decides-none_negative, judged_shown, shown_holds}
 
 pub Decides-keeps : (weight : List ℕ) (row : Constraint) → Decides (keeps weight row) (Keeps weight row)
 Decides-keeps weight row = Decides-le (weighed weight row.coefficients) _

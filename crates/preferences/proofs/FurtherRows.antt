@@ -1,23 +1,25 @@
 -- What a further row adds to a difference, and why a further row keeps the laws where the preference below keeps them.
 use Rattle.std.specs.Prelude.{◌≡◌, ℕ, suc, ◌+◌, ◌-◌, ◌<◌, ◌≤◌, Bool, true, false, cond, List, [], ◌∷◌, length, take, drop, replicate, ℤ, pos, ◌+ℤ◌, ◌*ℤ◌, ◌≤ℤ◌, Decides, slice_index, slice_index_or, refl}
-use Rattle.std.proofs.Common.{sym, ap, ◌∙◌, subst, add-one, arith}
+use Rattle.std.proofs.Common.{⊎_elim, inl, inr, sym, ap, ◌∙◌, subst, add-one, arith}
 use Rattle.std.proofs.Math.IntN.{+ℤ_idr, +ℤ_assoc, zero-*ℤ}
 use Rattle.std.specs.List.{AllByRecursion}
 use Rattle.std.proofs.lemmas.List.FromFn.{length-map-range_with_len, get_or-map-range_with_len, fill_by_all}
 use Rattle.std.proofs.lemmas.List.{ext_get_or, get_or-take, length-take-le, take_rest}
-use Rattle.std.proofs.lemmas.Bool.{cond-true, cond-false}
+use Rattle.std.proofs.lemmas.Bool.{cond-true, cond-false, cases_lt}
 use Rattle.std.proofs.lemmas.Bool.Decides.{Decides-and, Decides-like, same_from_decides}
 use Rattle.model.specs.Limits.{InRange, Proper, Ranged, all_in_range}
 use Rattle.model.specs.Meaning.{Meaning, Certificate, Lawful, Safe}
+use Rattle.model.specs.Refusals.{Unopposed}
 use Rattle.model.specs.Weighing.{weighed}
 use Rattle.model.specs.declared.judgement.Judgement.{Judgement}
+use Rattle.model.specs.declared.refusal.Refusal.{Refusal}
 use Rattle.model.specs.Each.{Decides-in_range, Decides-no}
 use Rattle.model.proofs.Weighed.{spread_alike, weighed-spread}
 use Rattle.preferences.specs.Constraints.{Constraint, Keeps, effective, lift, shows}
-use Rattle.preferences.specs.FurtherRows.{with_row, further_judged, further_meaning, JoinsRows}
-use Rattle.preferences.specs.Judging.{judgement}
-use Rattle.preferences.specs.Certificates.{row_weighed, left_weighed}
-use Rattle.preferences.specs.Rules.{Decides-keeps, Decides-shows}
+use Rattle.preferences.specs.FurtherRows.{with_row, further_judged, further_meaning, further_grounds, JoinsRows}
+use Rattle.preferences.specs.Judging.{judgement, JudgesLawfully}
+use Rattle.preferences.proofs.Certificates.{row_weighed, left_weighed}
+use Rattle.preferences.proofs.Rules.{Decides-keeps, Decides-shows}
 
 pub with_row-length : (row : Constraint) (m : ℕ) (difference : List ℤ) → length (with_row row m difference) ≡ length difference
 with_row-length row m difference = length-map-range_with_len _ 0 (length difference)
@@ -64,10 +66,6 @@ module _ (below : Meaning) (row : Constraint) (difference : List ℤ) where
       sym (first_taken multipliers some ∙ cond-false _ _ _ (same_from_decides _ false (Decides-in_range (with_row row (slice_index multipliers 0) difference)) (Decides-no out)))
 
 module _ (below : Meaning) (lawful : Lawful below) (row : Constraint) (sample : List ℕ) where
-  further_admits : (weight : List ℕ) → Proper below.dims weight → Decides ((further_meaning below row sample).admits weight) (below.admissible weight × Keeps weight row)
-  further_admits weight proper =
-      Decides-and (below.admits weight) _ (lawful.sound weight proper, lawful.exact weight proper) (Decides-keeps weight row)
-
   further_safe : (difference : List ℤ) (multipliers : List ℕ) → Ranged below.dims difference → Certificate (further_meaning below row sample) multipliers → further_judged below row difference multipliers ≡ Judgement.Shown → Safe (further_meaning below row sample) difference
   further_safe difference [] ranged certificate shown weight admissible = absurd (omega (arith, certificate.count))
   further_safe difference (m ∷ multipliers) ranged certificate shown weight admissible =
@@ -82,16 +80,13 @@ module _ (below : Meaning) (lawful : Lawful below) (row : Constraint) (sample : 
       rw (add-one below.multipliers, with_row_none row difference)
       (cond-true (all_in_range difference) _ _ ((Decides-in_range difference).1 ranged.range) ∙ lawful.zeros difference ranged none)
 
-  pub further_lawful : Lawful (further_meaning below row sample)
-  further_lawful =
-      record {
-        width = λ weight h. lawful.width weight h.0;
-        some = λ weight h. lawful.some weight h.0;
-        sound = λ weight proper. (further_admits weight proper).0;
-        exact = λ weight proper. (further_admits weight proper).1;
-        safe = further_safe;
-        zeros = further_zeros;
-      }
+  pub further_judges : JudgesLawfully (further_meaning below row sample)
+  further_judges = record { safe = further_safe; zeros = further_zeros }
+
+-- where no ground meets the making, there is room for one multiplier more
+pub room_kept : (below : Meaning) (numbers : List ℤ) (sample : List ℕ) → Unopposed (further_grounds below numbers sample) → below.multipliers + 1 ≤ 64
+room_kept below numbers sample free =
+    ⊎_elim (λ within. omega arith) (λ over. absurd (free Refusal.Rows (inr (inl (refl, λ one. omega (arith, one.room)))))) (cases_lt below.multipliers 64)
 
 -- at a figure, the sum with what the rows add is the difference with what they add together with the further row in front
 module _ (row : Constraint) (rows : List Constraint) (difference : List ℤ) (m : ℕ) (multipliers : List ℕ) where

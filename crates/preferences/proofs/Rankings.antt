@@ -13,7 +13,7 @@ use Rattle.model.specs.declared.judgement.Judgement.{Judgement}
 use Rattle.model.specs.Each.{Decides-leb}
 use Rattle.model.proofs.Weighed.{times_add, add_times, times_nonneg}
 use Rattle.preferences.specs.Rankings.{NeverRises, Ranked, no_step_rises, never_rises, ranking_admits, first_sum, ranking_shows, ranking_meaning}
-use Rattle.preferences.specs.Judged.{Decides-none_negative, judged_shown, shown_holds}
+use Rattle.preferences.proofs.Judged.{Decides-none_negative, judged_shown, shown_holds}
 
 next_part : (part : ℕ) (parts : List ℕ) → NeverRises (part ∷ parts) → slice_index parts 0 ≤ part
 next_part part [] falls = omega arith
