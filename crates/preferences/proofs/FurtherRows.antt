@@ -1,13 +1,13 @@
 -- What a further row adds to a difference, and why a further row keeps the laws where the preference below keeps them.
-use Rattle.std.specs.Prelude.{◌≡◌, ℕ, suc, ◌+◌, ◌-◌, ◌<◌, ◌≤◌, Bool, true, false, cond, List, [], ◌∷◌, length, take, drop, replicate, ℤ, pos, ◌+ℤ◌, ◌*ℤ◌, ◌≤ℤ◌, Decides, slice_index, slice_index_or, refl}
+use Rattle.std.specs.Prelude.{◌≡◌, ℕ, suc, ◌+◌, ◌-◌, ◌<◌, ◌≤◌, Bool, true, false, cond, List, [], ◌∷◌, length, take, drop, replicate, ℤ, pos, ◌+ℤ◌, ◌*ℤ◌, ◌≤ℤ◌, slice_index, slice_index_or, refl}
 use Rattle.std.proofs.Common.{⊎_elim, inl, inr, sym, ap, ◌∙◌, subst, add-one, arith}
 use Rattle.std.proofs.Math.IntN.{+ℤ_idr, +ℤ_assoc, zero-*ℤ}
 use Rattle.std.specs.List.{AllByRecursion}
 use Rattle.std.proofs.lemmas.List.FromFn.{length-map-range_with_len, get_or-map-range_with_len, fill_by_all}
 use Rattle.std.proofs.lemmas.List.{ext_get_or, get_or-take, length-take-le, take_rest}
 use Rattle.std.proofs.lemmas.Bool.{cond-true, cond-false, cases_lt}
-use Rattle.std.proofs.lemmas.Bool.Decides.{Decides-and, Decides-like, same_from_decides}
-use Rattle.model.specs.Limits.{InRange, Proper, Ranged, all_in_range}
+use Rattle.std.proofs.lemmas.Bool.Decides.{Decides-like, same_from_decides}
+use Rattle.model.specs.Limits.{InRange, Ranged, all_in_range}
 use Rattle.model.specs.Meaning.{Meaning, Certificate, Lawful, Safe}
 use Rattle.model.specs.Refusals.{Unopposed}
 use Rattle.model.specs.Weighing.{weighed}
@@ -19,7 +19,7 @@ use Rattle.preferences.specs.Constraints.{Constraint, Keeps, effective, lift, sh
 use Rattle.preferences.specs.FurtherRows.{with_row, further_judged, further_meaning, further_grounds, JoinsRows}
 use Rattle.preferences.specs.Judging.{judgement, JudgesLawfully}
 use Rattle.preferences.proofs.Certificates.{row_weighed, left_weighed}
-use Rattle.preferences.proofs.Rules.{Decides-keeps, Decides-shows}
+use Rattle.preferences.proofs.Rules.{Decides-shows}
 
 pub with_row-length : (row : Constraint) (m : ℕ) (difference : List ℤ) → length (with_row row m difference) ≡ length difference
 with_row-length row m difference = length-map-range_with_len _ 0 (length difference)

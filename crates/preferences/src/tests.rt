@@ -12,7 +12,7 @@ fn making(made: Result<Rows, MakeError>) -> u8 {
     }
 }
 
-fn adding<P: Drop>(made: Result<FurtherRow<P>, HandedBack<P, Refusal>>) -> u8 {
+fn adding<P: Preference + Drop>(made: Result<FurtherRow<P>, HandedBack<P, Refusal>>) -> u8 {
     match made {
         Ok(_) => 0,
         Err(back) => back.error.number(),

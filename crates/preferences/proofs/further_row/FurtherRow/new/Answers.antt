@@ -1,4 +1,3 @@
-use Rattle.std.proofs.Common.{arith}
 use Rattle.preferences.proofs.FurtherRows.{further_judges, room_kept}
 use Rattle.preferences.proofs.further_row.FurtherRow.new.Goals as goal
 
