@@ -1,4 +1,6 @@
 // Plays one task from beginning to end: a farm's preference, five tariff sheets of a barn, and a solver's claims about them, checked.
+#![tactic(auto)]
+
 ghost use Rattle.std.specs.Prelude.{◌≡◌, ◌≤◌, length};
 
 use crate::claims::{Claim, check};
