@@ -1,0 +1,50 @@
+// Plays the further kinds: the differences of two claims under a ranking and under one row more over it, and three cover sheets, two of them compared.
+#![tactic(auto)]
+
+use crate::covers::compare_covers;
+use crate::report::print_judged;
+use anyhow::anyhow;
+use preferences::{FurtherRow, Ranking};
+
+mod covers;
+mod report;
+
+// The difference of the claim that sheet 4 is never worse than sheet 5, of a barn's five sheets.
+const FIVE_BY_FOUR: [i64; 2] = [16, -6];
+
+// The difference of the claim that sheet 1 is never worse than sheet 2.
+const TWO_BY_ONE: [i64; 2] = [8, -12];
+
+fn main(rt: HostRuntime) -> anyhow::Result<()> {
+    ask_ranked(&rt)?;
+    compare_covers(&rt)
+}
+
+// Differences under a ranking, and under one row more over it.
+fn ask_ranked(rt: &HostRuntime) -> anyhow::Result<()> {
+    let Ok(ranking) = Ranking::new(2) else {
+        return Err(anyhow!("the ranking was not made"));
+    };
+    println!(rt; "a ranking of premium before own share")?;
+    print_judged(rt, &ranking, &FIVE_BY_FOUR, &[])?;
+    print_judged(rt, &ranking, &TWO_BY_ONE, &[])?;
+    let ranking = match FurtherRow::new(ranking, &[-10, 0, -6], &[1, 1]) {
+        Ok(_) => return Err(anyhow!("a sample that does not keep the row was let in")),
+        Err(back) => {
+            let number = back.error.number();
+            println!(rt;
+                "one row more over it: row -10 0 with bound -6, sample 1 1: refused {number}"
+            )?;
+            back.value
+        }
+    };
+    let Ok(further) = FurtherRow::new(ranking, &[-10, 0, -6], &[3, 2]) else {
+        return Err(anyhow!("the further row was not made"));
+    };
+    println!(rt;
+        "one row more over it: row -10 0 with bound -6, sample 3 2: made, so premium counts for at least six tenths"
+    )?;
+    print_judged(rt, &further, &TWO_BY_ONE, &[2])?;
+    print_judged(rt, &further, &TWO_BY_ONE, &[1])?;
+    Ok(())
+}
