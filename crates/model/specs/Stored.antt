@@ -34,6 +34,9 @@ parts_limits weight = All-front InLimit weight.parts weight.count 0 weight.limit
 pub lent_limit : (weight : Weight) (parts : List ℕ) → parts ≡ parts_of weight → (k : ℕ) → slice_index parts k ≤ 1000000
 lent_limit weight parts same k = limit_at parts (subst (AllByRecursion InLimit) (sym same) (parts_limits weight)) k
 
+pub parts_proper : (weight : Weight) → Proper weight.count (parts_of weight)
+parts_proper weight = record { width = parts_count weight; limits = parts_limits weight; some = weight.some }
+
 -- what a weight was made of is proper
 pub made_proper : (weight : Weight) (parts : List ℕ) (d : ℕ) → parts_of weight ≡ parts → length parts ≡ d → Proper d parts
 made_proper weight parts d same width =

@@ -19,7 +19,7 @@ times_nonpos n (pos a) h =
 times_nonpos n (negsuc a) h = negative (n * suc a)
 
 -- a row's effective coefficients, weighed by a weight that keeps the row
-effective_weighed : (weight : List ℕ) (row : Constraint) → Keeps weight row → spread weight (effective row) ≤ℤ pos 0
+pub effective_weighed : (weight : List ℕ) (row : Constraint) → Keeps weight row → spread weight (effective row) ≤ℤ pos 0
 effective_weighed weight row keeps =
     let sum = total weight in
     let bound = row.bound in
@@ -39,7 +39,7 @@ nothing_weighed : (weight : List ℕ) → spread weight (λ i. pos 0) ≤ℤ pos
 nothing_weighed weight = rw (spread_same weight (pos 0), *ℤ-zero (pos (total weight))) (omega (arith, ints))
 
 -- what all the multipliers add, weighed by a weight that keeps every row
-lift_weighed : (weight : List ℕ) (rows : List Constraint) (multipliers : List ℕ) → AllByRecursion (Keeps weight) rows → spread weight (lift rows multipliers) ≤ℤ pos 0
+pub lift_weighed : (weight : List ℕ) (rows : List Constraint) (multipliers : List ℕ) → AllByRecursion (Keeps weight) rows → spread weight (lift rows multipliers) ≤ℤ pos 0
 lift_weighed weight [] multipliers keep = nothing_weighed weight
 lift_weighed weight (row ∷ rows) [] keep = nothing_weighed weight
 lift_weighed weight (row ∷ rows) (m ∷ multipliers) keep =

@@ -13,7 +13,8 @@ use Rattle.model.specs.declared.judgement.Judgement.{Judgement}
 use Rattle.model.specs.Each.{Decides-leb}
 use Rattle.model.proofs.Weighed.{times_add, add_times, times_nonneg}
 use Rattle.preferences.specs.Rankings.{NeverRises, Ranked, no_step_rises, never_rises, ranking_admits, first_sum, ranking_shows, ranking_meaning}
-use Rattle.preferences.proofs.Judged.{Decides-none_negative, judged_shown, shown_holds}
+use Rattle.preferences.proofs.Judged.{judgement_shown, shown_holds}
+use Rattle.preferences.proofs.Rules.{Decides-none_negative}
 
 next_part : (part : ℕ) (parts : List ℕ) → NeverRises (part ∷ parts) → slice_index parts 0 ≤ part
 next_part part [] falls = omega arith
@@ -80,7 +81,7 @@ ranking_safe d difference multipliers shown weight ranked =
 
 ranking_zeros : (d : ℕ) (difference : List ℤ) → Ranged d difference → AllByRecursion (λ entry. pos 0 ≤ℤ entry) difference → (ranking_meaning d).judged difference [] ≡ Judgement.Shown
 ranking_zeros d difference ranged none =
-    sym (judged_shown _ (Decides-ranking_shows d difference []) (ranged.width, refl, λ n below. first_sum_nonneg difference (suc n) none))
+    sym (judgement_shown _ (Decides-ranking_shows d difference []) (ranged.width, refl, λ n below. first_sum_nonneg difference (suc n) none))
 
 pub ranking_lawful : (d : ℕ) → Lawful (ranking_meaning d)
 ranking_lawful d =

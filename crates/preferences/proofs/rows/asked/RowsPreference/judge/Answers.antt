@@ -9,8 +9,7 @@ use Rattle.preferences.specs.Stored.{constraints_of}
 use Rattle.preferences.specs.StoredRow.{constraint_of}
 use Rattle.preferences.specs.declared.row.Row.{Row}
 use Rattle.preferences.proofs.Held.{constraints_count}
-use Rattle.preferences.proofs.Judged.{judged_shown, judged_not_shown}
-use Rattle.preferences.proofs.Rules.{Decides-shows}
+use Rattle.preferences.proofs.Rules.{judged_shown, judged_not_shown}
 use Rattle.preferences.proofs.rows.asked.RowsPreference.judge.Goals as goal
 
 -- at each figure not negative, of rows and entries as they were lent
@@ -23,7 +22,7 @@ same_kept rows held entries given multipliers r p q h =
 
 pub returns-then-entries-self : goal.returns-then-entries-self
 returns-then-entries-self c =
-    judged_not_shown _ (Decides-shows _ (constraints_of c.args.self.now) (entries_of c.args.difference.now) c.args.multipliers.now) (λ h. c.if-entries-self.true (ap length c.entries-entries.ensures ∙ h.0))
+    judged_not_shown _ (constraints_of c.args.self.now) (entries_of c.args.difference.now) c.args.multipliers.now (λ h. c.if-entries-self.true (ap length c.entries-entries.ensures ∙ h.0))
 
 pub none_negative-shown-requires : goal.none_negative-shown-requires
 none_negative-shown-requires c =
@@ -36,7 +35,7 @@ returns-then-shown c =
     let difference = entries_of c.args.difference.now in
     let kept = same_kept _ _ _ difference c.args.multipliers.now c.none_negative-shown.result c.as_slice.ensures.value c.entries-entries.ensures c.none_negative-shown.ensures in
     let width : length difference ≡ self.dims = sym (ap length c.entries-entries.ensures) ∙ c.if-entries-self.false in
-    judged_shown _ (Decides-shows self.dims (constraints_of self) difference c.args.multipliers.now)
+    judged_shown self.dims (constraints_of self) difference c.args.multipliers.now
     (width, c.if-multipliers.false ∙ c.multipliers.ensures, λ i below. kept.0 c.if-shown.true i (omega arith))
 
 pub returns-else-shown : goal.returns-else-shown
@@ -45,5 +44,5 @@ returns-else-shown c =
     let difference = entries_of c.args.difference.now in
     let kept = same_kept _ _ _ difference c.args.multipliers.now c.none_negative-shown.result c.as_slice.ensures.value c.entries-entries.ensures c.none_negative-shown.ensures in
     let width : length difference ≡ self.dims = sym (ap length c.entries-entries.ensures) ∙ c.if-entries-self.false in
-    judged_not_shown _ (Decides-shows self.dims (constraints_of self) difference c.args.multipliers.now)
+    judged_not_shown self.dims (constraints_of self) difference c.args.multipliers.now
     (λ h. not_from_Decides c.none_negative-shown.result kept c.if-shown.false (λ i below. h.2 i (omega arith)))
