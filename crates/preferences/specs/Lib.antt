@@ -4,7 +4,6 @@ pub mod FurtherRowLaws
 pub mod FurtherRows
 pub mod Judging
 pub mod Making
-pub mod Propositions
 pub mod Rankings
 pub mod RowList
 pub mod Stored

@@ -1,9 +1,9 @@
 ghost use Rattle.std.specs.Prelude.{◌≤◌, map, vec_items, vec_len};
 ghost use Rattle.std.proofs.Props.{props};
+ghost use Rattle.std.specs.List.{AllByRecursion-prop};
 ghost use Rattle.model.specs.Meaning.{Lawful};
 ghost use Rattle.model.specs.Values.{parts_of};
 ghost use Rattle.preferences.specs.Making.{rows_meaning};
-ghost use Rattle.preferences.specs.Propositions.{AllByRecursion-prop};
 ghost use Rattle.preferences.specs.StoredRow.{constraint_of};
 
 use crate::row::Row;
