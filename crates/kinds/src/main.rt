@@ -1,4 +1,4 @@
-// Plays the further kinds: the differences of two claims under a ranking and under one row more over it, and three cover sheets, two of them compared.
+// Plays the further kinds: the differences of two claims under a ranking, one of them under one row more over it, and three cover sheets, two of them compared.
 #![tactic(auto)]
 
 use crate::covers::compare_covers;
@@ -20,7 +20,7 @@ fn main(rt: HostRuntime) -> anyhow::Result<()> {
     compare_covers(&rt)
 }
 
-// Differences under a ranking, and under one row more over it.
+// Two differences under a ranking, and one of them under one row more over it.
 fn ask_ranked(rt: &HostRuntime) -> anyhow::Result<()> {
     let Ok(ranking) = Ranking::new(2) else {
         return Err(anyhow!("the ranking was not made"));

@@ -9,7 +9,7 @@ use Rattle.model.specs.declared.refusal.Refusal.{Refusal}
 abbrev pub IsFigureCount : ℕ → Type 0
 IsFigureCount d = (1 ≤ d) × (d ≤ 8)
 
--- a certificate has at most 64 multipliers
+-- how many multipliers a preference that is made over another may take: at most 64
 abbrev pub IsMultiplierCount : ℕ → Type 0
 IsMultiplierCount n = n ≤ 64
 
