@@ -1,13 +1,13 @@
 -- The tests of rows decide what they are to decide, and rows keep the laws of a preference.
-use Rattle.std.specs.Prelude.{◌≡◌, ℕ, ◌<◌, Bool, true, false, cond, List, length, replicate, ℤ, pos, negsuc, ◌+ℤ◌, ◌≤ℤ◌, Decides, slice_index_or, refl}
-use Rattle.std.proofs.Common.{sym, arith}
+use Rattle.std.specs.Prelude.{◌≡◌, ℕ, ◌<◌, cond, List, length, replicate, ℤ, pos, negsuc, ◌+ℤ◌, ◌≤ℤ◌, Decides, slice_index_or, refl}
+use Rattle.std.proofs.Common.{arith}
 use Rattle.std.proofs.lemmas.Int.{ints}
 use Rattle.std.specs.Int.Signed.{non_neg}
 use Rattle.std.specs.List.{AllByRecursion}
 use Rattle.std.proofs.ByRecursion.{All-get_or, Decides-by_and}
 use Rattle.std.proofs.lemmas.List.{length-replicate}
-use Rattle.std.proofs.lemmas.Bool.{cond-true, cond-false}
-use Rattle.std.proofs.lemmas.Bool.Decides.{Decides-and, Decides-eqb, Decides-below_and, Decides-like, same_from_decides}
+use Rattle.std.proofs.lemmas.Bool.{cond-true}
+use Rattle.std.proofs.lemmas.Bool.Decides.{Decides-and, Decides-eqb, Decides-below_and, Decides-like}
 use Rattle.model.specs.Limits.{Ranged}
 use Rattle.model.specs.Meaning.{Lawful, Safe}
 use Rattle.model.specs.Weighing.{total, weighed}
@@ -16,6 +16,7 @@ use Rattle.model.specs.Each.{Decides-le, Decides-yes, Decides-no}
 use Rattle.preferences.specs.Constraints.{Constraint, Keeps, Admissible, lift, keeps, all_keep, admits, none_negative, shows}
 use Rattle.preferences.specs.Making.{rows_meaning}
 use Rattle.preferences.proofs.Certificates.{shown_weighed, lift_zeros}
+use Rattle.preferences.proofs.Judged.{judgement_shown, judgement_not_shown, shown_holds}
 
 Decides-nonneg : (z : ℤ) → Decides (non_neg z) (pos 0 ≤ℤ z)
 Decides-nonneg (pos n) = Decides-yes (omega (arith, ints))
@@ -43,10 +44,10 @@ Decides-shows d rows difference multipliers =
 
 -- the judgement where the rule holds, and where it does not
 pub judged_shown : (d : ℕ) (rows : List Constraint) (difference : List ℤ) (multipliers : List ℕ) → Shows d rows difference multipliers → Judgement.Shown ≡ cond (shows d rows difference multipliers) Judgement.Shown Judgement.NotShown
-judged_shown d rows difference multipliers h = sym (cond-true _ _ _ ((Decides-shows d rows difference multipliers).1 h))
+judged_shown d rows difference multipliers h = judgement_shown _ (Decides-shows d rows difference multipliers) h
 
 pub judged_not_shown : (d : ℕ) (rows : List Constraint) (difference : List ℤ) (multipliers : List ℕ) → (Shows d rows difference multipliers → ⊥) → Judgement.NotShown ≡ cond (shows d rows difference multipliers) Judgement.Shown Judgement.NotShown
-judged_not_shown d rows difference multipliers h = sym (cond-false _ _ _ (same_from_decides (shows d rows difference multipliers) false (Decides-shows d rows difference multipliers) (Decides-no h)))
+judged_not_shown d rows difference multipliers h = judgement_not_shown _ (Decides-shows d rows difference multipliers) h
 
 -- an admitted proper weight is admissible, and the reverse
 pub Decides-admits : (d : ℕ) (rows : List Constraint) (weight : List ℕ) → 0 < total weight → Decides (admits d rows weight) (Admissible d rows weight)
@@ -68,14 +69,10 @@ rows_zeros d rows sample difference ranged none =
     each : (i : ℕ) → i < d → pos 0 ≤ℤ (slice_index_or difference i (pos 0) +ℤ lift rows (replicate (length rows) 0) i)
     each i below = rw (lift_zeros rows (length rows) i) (zero_added (slice_index_or difference i (pos 0)) (All-get_or (λ z. pos 0 ≤ℤ z) difference i (pos 0) (omega (arith, ranged.width)) none))
 
-shown_is : (t : Bool) → cond t Judgement.Shown Judgement.NotShown ≡ Judgement.Shown → t ≡ true
-shown_is true h = refl
-shown_is false h = cc
-
 -- a shown difference is safe
 rows_safe : (d : ℕ) (rows : List Constraint) (sample : List ℕ) (difference : List ℤ) (multipliers : List ℕ) → (rows_meaning d rows sample).judged difference multipliers ≡ Judgement.Shown → Safe (rows_meaning d rows sample) difference
 rows_safe d rows sample difference multipliers shown weight admissible =
-    let rule = (Decides-shows d rows difference multipliers).0 (shown_is (shows d rows difference multipliers) shown) in
+    let rule = (Decides-shows d rows difference multipliers).0 (shown_holds (shows d rows difference multipliers) shown) in
     shown_weighed weight rows difference multipliers admissible.2 (λ i below. rule.2 i (omega (arith, admissible.0)))
 
 pub rows_lawful : (d : ℕ) (rows : List Constraint) (sample : List ℕ) → Lawful (rows_meaning d rows sample)
