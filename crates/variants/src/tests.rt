@@ -21,10 +21,7 @@ fn terms(premium: u32, own_share: u32, sum: u32, days: u32, exclusions: [bool; 8
 }
 
 fn cover(terms: CoverTerms) -> Result<CoverSheet, Fail> {
-    match CoverSheet::new(terms) {
-        Ok(sheet) => Ok(sheet),
-        Err(_) => Err(Fail::new("the cover sheet was refused")),
-    }
+    CoverSheet::new(terms).map_err(|_| Fail::new("the cover sheet was refused"))
 }
 
 #[test]
