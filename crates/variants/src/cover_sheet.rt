@@ -5,6 +5,9 @@ use crate::CoverTerms;
 mod made;
 mod order;
 
+// The largest premium, own share and sum covered.
+const LIMIT: u32 = 1_000_000;
+
 // A cover sheet: terms within their limits.
 #[derive(Clone, Copy)]
 pub struct CoverSheet {

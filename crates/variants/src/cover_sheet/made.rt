@@ -3,12 +3,10 @@ ghost use Rattle.model.specs.Refusals.{Checked};
 ghost use Rattle.variants.specs.Covers.{cover_grounds};
 
 use crate::CoverTerms;
-use crate::cover_sheet::CoverSheet;
+use crate::cover_sheet::{CoverSheet, LIMIT};
 use model::Refusal;
 
-// The largest premium, own share and sum covered, and the most waiting days.
-const LIMIT: u32 = 1_000_000;
-
+// The most waiting days.
 const DAYS: u32 = 3_650;
 
 impl CoverSheet {
@@ -16,10 +14,11 @@ impl CoverSheet {
     pub fn new(terms: CoverTerms) -> Result<CoverSheet, Refusal>
         ensures { Checked (cover_grounds terms) result (λ made. made.terms ≡ terms) }
     {
-        if terms.premium > LIMIT || terms.own_share > LIMIT {
-            return Err(Refusal::Part);
-        }
-        if terms.sum_covered > LIMIT || terms.waiting_days > DAYS {
+        if terms.premium > LIMIT
+            || terms.own_share > LIMIT
+            || terms.sum_covered > LIMIT
+            || terms.waiting_days > DAYS
+        {
             return Err(Refusal::Part);
         }
         Ok(CoverSheet { terms })

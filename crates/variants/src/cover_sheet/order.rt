@@ -2,7 +2,7 @@ ghost use Rattle.std.specs.Prelude.{◌≡◌};
 ghost use Rattle.variants.specs.Covers.{cover_figures, cover_better, marks_set, set_too};
 ghost use Rattle.variants.specs.CoverLaws.{cover_limits, cover_order};
 
-use crate::cover_sheet::CoverSheet;
+use crate::cover_sheet::{CoverSheet, LIMIT};
 use model::Variant;
 
 // At least as good when premium, own share and days are no greater, the sum covered is no smaller, and each exclusion stands in the other too.
@@ -23,7 +23,7 @@ impl Variant for CoverSheet {
         match index {
             0 => self.terms.premium,
             1 => self.terms.own_share,
-            2 => 1_000_000 - self.terms.sum_covered,
+            2 => LIMIT - self.terms.sum_covered,
             3 => self.terms.waiting_days,
             4 => count_set(&self.terms.exclusions),
             _ => 0,
