@@ -33,13 +33,11 @@ impl Variant for CoverSheet {
     fn at_least_as_good(&self, other: &CoverSheet) -> bool {
         let terms = &self.terms;
         let others = &other.terms;
-        if terms.premium > others.premium || terms.own_share > others.own_share {
-            return false;
-        }
-        if terms.waiting_days > others.waiting_days || terms.sum_covered < others.sum_covered {
-            return false;
-        }
-        all_set_too(&terms.exclusions, &others.exclusions)
+        terms.premium <= others.premium
+            && terms.own_share <= others.own_share
+            && terms.waiting_days <= others.waiting_days
+            && terms.sum_covered >= others.sum_covered
+            && all_set_too(&terms.exclusions, &others.exclusions)
     }
 }
 
