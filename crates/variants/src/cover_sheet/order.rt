@@ -45,23 +45,15 @@ impl Variant for CoverSheet {
 fn count_set(marks: &[bool; 8]) -> u32
     ensures { result ≡ marks_set marks.now }
 {
-    let mut count = 0;
-    for mark in marks {
-        if *mark {
-            count += 1;
-        }
-    }
-    count
+    marks.iter().filter(|mark| **mark).count() as u32
 }
 
 // Whether each mark that is set is set in the others too.
 fn all_set_too(marks: &[bool; 8], others: &[bool; 8]) -> bool
     ensures { result ≡ set_too marks.now others.now }
 {
-    for index in 0..8 {
-        if marks[index] && !others[index] {
-            return false;
-        }
-    }
-    true
+    marks
+        .iter()
+        .zip(others)
+        .all(|(mark, other)| !*mark || *other)
 }
