@@ -37,7 +37,7 @@ module _ (m : Meaning) (lawful : Lawful m) where
   weight_asked weight parts said same width says =
       let proper = made_proper weight parts m.dims same width in
       let answer : said ≡ m.admits parts = says ∙ ap m.admits same in
-      let count : IsFigureCount m.dims = (omega (arith, weight.least, parts_count weight, ap length same), omega (arith, weight.most, parts_count weight, ap length same)) in (
+      let count : IsFigureCount m.dims = (omega (arith, weight.parts.least, parts_count weight, ap length same), omega (arith, weight.parts.most, parts_count weight, ap length same)) in (
         unopposed _ _ _ (λ wrong. wrong (count, width)) (unopposed _ _ _ (λ wrong. wrong (proper.limits, proper.some)) unopposed_end),
         ((λ h. lawful.sound parts proper (sym answer ∙ h)), (λ h. answer ∙ lawful.exact parts proper h)),
       )
@@ -47,7 +47,7 @@ module _ (m : Meaning) (lawful : Lawful m) where
       let held = entries_ranged difference in
       let ranged : Ranged m.dims entries = record { width = width; range = subst (AllByRecursion InRange) same held.range } in
       let answer : judgement ≡ m.judged entries multipliers = says ∙ ap (λ zs. m.judged zs multipliers) same in
-      let dims : IsFigureCount m.dims = (omega (arith, difference.least, entries_count difference, ap length same), omega (arith, difference.most, entries_count difference, ap length same)) in (
+      let dims : IsFigureCount m.dims = (omega (arith, difference.entries.least, entries_count difference, ap length same), omega (arith, difference.entries.most, entries_count difference, ap length same)) in (
         unopposed _ _ _ (λ wrong. wrong (dims, width)) (unopposed _ _ _ (λ wrong. wrong count) (unopposed _ _ _ (λ wrong. wrong limits) (unopposed _ _ _ (λ wrong. wrong ranged.range) unopposed_end))),
         record { rule = answer; safe = λ h. lawful.safe entries multipliers ranged (record { count = count; limits = limits }) (sym answer ∙ h) },
       )

@@ -1,6 +1,7 @@
 pub mod Asked
 pub mod Machine
 pub mod Mixtures
+pub mod Pairs
 pub mod Sums
 pub mod Tables
 pub mod Weighed

@@ -1,17 +1,45 @@
 -- A score, a total and a weighed difference, one part more at a time.
-use Rattle.std.proofs.Common.{◌≡◌, ℕ, zero, suc, ◌+◌, ◌*◌, ◌<◌, ◌≤◌, List, [], ◌∷◌, length, get_or, take, ℤ, pos, ◌+ℤ◌, ◌*ℤ◌, sym, ap, ◌∙◌, mul-zero, add-one, arith}
+use Rattle.std.proofs.Common.{◌≡◌, ℕ, zero, suc, ◌+◌, ◌*◌, ◌<◌, ◌≤◌, ◌⊎◌, ⊎_elim, inl, inr, List, [], ◌∷◌, length, get_or, take, ℤ, pos, ◌+ℤ◌, ◌*ℤ◌, refl, sym, ap, ◌∙◌, mul-le-mul, add-one, arith}
+use Rattle.std.specs.Prelude.{Decides, nat_lt}
+use Rattle.std.specs.List.{AllByRecursion, list_any}
+use Rattle.std.proofs.lemmas.Bool.Decides.{Decides-like, Decides-or, Decides-ltb}
+use Rattle.model.specs.Each.{Decides-no}
+use Rattle.model.specs.Limits.{InLimit}
 use lib.IntN.{+ℤ_idl, +ℤ_idr, +ℤ_assoc, *ℤ-zero}
 use Rattle.model.specs.Weighing.{score, total, weighed}
 
-score-suc : (w xs : List ℕ) (i : ℕ) → i < length w → score (take (suc i) w) xs ≡ score (take i w) xs + get_or w i 0 * get_or xs i 0
-score-suc [] xs i h = absurd (omega arith)
-score-suc (p ∷ w) [] zero h = omega (arith, mul-zero p)
-score-suc (p ∷ w) [] (suc i) h = omega (arith, mul-zero (get_or w i 0))
-score-suc (p ∷ w) (x ∷ xs) zero h = omega arith
-score-suc (p ∷ w) (x ∷ xs) (suc i) h = let e = score-suc w xs i (omega arith) in omega arith
+-- one part and its figure, taken off the front
+pub score_taken : {w v xs ys : List ℕ} {p x : ℕ} → w ≡ p ∷ v → xs ≡ x ∷ ys → score w xs ≡ p * x + score v ys
+score_taken {v} {xs} {p} parts figures = ap (λ w. score w xs) parts ∙ ap (score (p ∷ v)) figures
 
-pub score_more : (w xs : List ℕ) (i : ℕ) → i < length w → score (take (i + 1) w) xs ≡ score (take i w) xs + get_or w i 0 * get_or xs i 0
-score_more w xs i h = rw add-one (score-suc w xs i h)
+-- where the parts or the figures are at their end
+pub score_done : (w xs : List ℕ) → (length w ≡ 0) ⊎ (length xs ≡ 0) → score w xs ≡ 0
+score_done [] xs h = refl
+score_done (p ∷ w) [] h = refl
+score_done (p ∷ w) (x ∷ xs) (inl h) = absurd (omega arith)
+score_done (p ∷ w) (x ∷ xs) (inr h) = absurd (omega arith)
+
+-- numbers within the limit
+pub score_limit : (w xs : List ℕ) → AllByRecursion InLimit w → AllByRecursion InLimit xs → score w xs ≤ 1000000000000 * length w
+score_limit [] xs parts figures = omega arith
+score_limit (p ∷ w) [] parts figures = omega arith
+score_limit (p ∷ w) (x ∷ xs) parts figures =
+    let product : p * x ≤ 1000000 * 1000000 = mul-le-mul parts.0 figures.0 in
+    omega (arith, score_limit w xs parts.1 figures.1)
+
+-- some part is greater than 0
+pub Decides-positive : (w : List ℕ) → Decides (list_any (λ part. nat_lt 0 part) w) (0 < total w)
+Decides-positive [] = Decides-no (λ h. omega arith)
+Decides-positive (part ∷ w) =
+    Decides-like _ (⊎_elim (λ h. omega arith) (λ h. omega arith)) (first part) (Decides-or _ _ (Decides-ltb 0 part) (Decides-positive w))
+  where
+    first : (p : ℕ) → 0 < p + total w → (0 < p) ⊎ (0 < total w)
+    first zero h = inr (omega arith)
+    first (suc p) h = inl (omega arith)
+
+pub total_limit : (w : List ℕ) → AllByRecursion InLimit w → total w ≤ 1000000 * length w
+total_limit [] parts = omega arith
+total_limit (p ∷ w) parts = omega (arith, total_limit w parts.1, parts.0)
 
 total-suc : (w : List ℕ) (i : ℕ) → i < length w → total (take (suc i) w) ≡ total (take i w) + get_or w i 0
 total-suc [] i h = absurd (omega arith)

@@ -1,7 +1,7 @@
 -- The words of the two answers, as the page prints them.
 use Rattle.std.specs.Prelude.{ℕ, List, codes}
-use Rattle.model.specs.declared.answers.ListAnswer.{ListAnswer}
-use Rattle.model.specs.declared.answers.TopAnswer.{TopAnswer}
+use Rattle.model.specs.declared.list_answer.ListAnswer.{ListAnswer}
+use Rattle.model.specs.declared.top_answer.TopAnswer.{TopAnswer}
 
 -- whether another variant is never worse: kept if none is, dropped if one is
 abbrev pub list_word : ListAnswer → List ℕ

@@ -1,7 +1,10 @@
 pub mod Answers
 pub mod Claims
+pub mod Errors
+pub mod Judging
 pub mod Limits
 pub mod Meaning
+pub mod Numbers
 pub mod Questions
 pub mod Refusals
 pub mod Values

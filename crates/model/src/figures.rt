@@ -1,5 +1,9 @@
-ghost use Rattle.std.specs.Prelude.{ℕ, ◌<◌, ◌≤◌, length, slice_index};
+ghost use Rattle.std.specs.List.{AllByRecursion, AllByRecursion-prop};
+ghost use Rattle.std.proofs.Props.{props};
 ghost use Rattle.model.specs.Limits.{InLimit};
+ghost use Rattle.model.specs.Numbers.{numbers_of};
+
+use crate::PerFigure;
 
 mod methods;
 mod order;
@@ -7,10 +11,6 @@ mod order;
 // The figures of a variant: 1 to 8 numbers up to 1,000,000, lower being better.
 #[derive(Clone, Copy)]
 pub struct Figures {
-    values: [u32; 8],
-    count: usize,
-    ghost least: { 1 ≤ count },
-    ghost most: { count ≤ 8 },
-    ghost stored: { count ≤ length values },
-    ghost limits: { (k : ℕ) → k < count → InLimit (slice_index values k) },
+    values: PerFigure<u32>,
+    ghost limits: { AllByRecursion InLimit (numbers_of values) } by { Prim.hlevel (props, AllByRecursion-prop) },
 }

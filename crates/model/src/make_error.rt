@@ -1,8 +1,11 @@
-ghost use Rattle.std.specs.Prelude.{◌≡◌};
+ghost use Rattle.std.specs.Prelude.{◌≡◌, Some};
+ghost use Rattle.model.specs.Errors.{error_text};
 ghost use Rattle.model.specs.declared.make_error.MakeError.TheVariants.{Refused, Memory};
 
 use crate::Refusal;
 use std::alloc::AllocError;
+use std::error::Error;
+use std::fmt;
 
 // Why something that needs memory was not made: a ground of refusal, or want of memory, which has no number.
 #[derive(Clone, Copy, PartialEq, Eq, Debug)]
@@ -26,3 +29,16 @@ impl From<AllocError> for MakeError {
         MakeError::Memory
     }
 }
+
+impl fmt::Display for MakeError {
+    ghost output = { λ error. Some (error_text error) };
+
+    fn fmt<W: fmt::Write>(&self, f: &mut fmt::Formatter<W>) -> fmt::Result {
+        match self {
+            Self::Refused(refusal) => write!(f, "refused {refusal}"),
+            Self::Memory => f.write_str("out of memory"),
+        }
+    }
+}
+
+impl Error for MakeError {}

@@ -4,7 +4,7 @@ ghost use Rattle.model.specs.Questions.{weight_question, difference_question, Ju
 ghost use Rattle.model.specs.Refusals.{Checked};
 ghost use Rattle.model.specs.Values.{parts_of, entries_of};
 
-use crate::lists::within_limit;
+use crate::lists::{LIMIT, all_within};
 use crate::{Difference, Judgement, Refusal, Weight};
 
 // A kind of preference: which weighings of the figures are permitted, and which certificates it accepts. No question changes it.
@@ -45,13 +45,13 @@ pub trait Preference {
         ensures { Checked (difference_question (meaning self.now) difference.now multipliers.now) result (Judges (meaning self.now) difference.now multipliers.now) }
     {
         let dims = self.dims();
-        if dims < 1 || dims > 8 || difference.len() != dims {
+        if !(1..=8).contains(&dims) || difference.len() != dims {
             return Err(Refusal::Width);
         }
         if multipliers.len() != self.multipliers() {
             return Err(Refusal::ProofLength);
         }
-        if !within_limit(multipliers) {
+        if !all_within(multipliers, LIMIT) {
             return Err(Refusal::ProofNumber);
         }
         let difference = Difference::new(difference)?;

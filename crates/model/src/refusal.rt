@@ -1,28 +1,32 @@
-ghost use Rattle.std.specs.Prelude.{◌≡◌};
+ghost use Rattle.std.specs.Prelude.{◌≡◌, Some};
+ghost use Rattle.std.specs.Fmt.{decimal};
 ghost use Rattle.model.specs.Refusals.{number};
 
-// The grounds on which a call or a file is refused, in the order in which they are checked.
+use std::error::Error;
+use std::fmt;
+
+// The grounds on which a call or a file is refused, each with its number, in the order in which they are checked.
 #[derive(Clone, Copy, PartialEq, Eq, Debug)]
 pub enum Refusal {
-    FileSize,
-    Header,
-    Offsets,
-    FigureCount,
-    Rows,
-    Sample,
-    Width,
-    Part,
-    Full,
-    SameFigures,
-    NotAdmissible,
-    ClaimBytes,
-    NotStanding,
-    Mixture,
-    ProofLength,
-    ProofNumber,
-    OutOfRange,
-    NotShown,
-    Buffer,
+    FileSize = 1,
+    Header = 2,
+    Offsets = 3,
+    FigureCount = 4,
+    Rows = 5,
+    Sample = 6,
+    Width = 7,
+    Part = 8,
+    Full = 9,
+    SameFigures = 10,
+    NotAdmissible = 11,
+    ClaimBytes = 12,
+    NotStanding = 13,
+    Mixture = 14,
+    ProofLength = 15,
+    ProofNumber = 16,
+    OutOfRange = 17,
+    NotShown = 18,
+    Buffer = 19,
 }
 
 impl Refusal {
@@ -30,26 +34,16 @@ impl Refusal {
     pub fn number(self) -> u8
         ensures { result ≡ number self }
     {
-        match self {
-            Refusal::FileSize => 1,
-            Refusal::Header => 2,
-            Refusal::Offsets => 3,
-            Refusal::FigureCount => 4,
-            Refusal::Rows => 5,
-            Refusal::Sample => 6,
-            Refusal::Width => 7,
-            Refusal::Part => 8,
-            Refusal::Full => 9,
-            Refusal::SameFigures => 10,
-            Refusal::NotAdmissible => 11,
-            Refusal::ClaimBytes => 12,
-            Refusal::NotStanding => 13,
-            Refusal::Mixture => 14,
-            Refusal::ProofLength => 15,
-            Refusal::ProofNumber => 16,
-            Refusal::OutOfRange => 17,
-            Refusal::NotShown => 18,
-            Refusal::Buffer => 19,
-        }
+        self as u8
     }
 }
+
+impl fmt::Display for Refusal {
+    ghost output = { λ refusal. Some (decimal (number refusal)) };
+
+    fn fmt<W: fmt::Write>(&self, f: &mut fmt::Formatter<W>) -> fmt::Result {
+        write!(f, "{}", self.number())
+    }
+}
+
+impl Error for Refusal {}

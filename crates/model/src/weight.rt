@@ -1,17 +1,18 @@
-ghost use Rattle.std.specs.Prelude.{ℕ, ◌<◌, ◌≤◌, length, take, slice_index};
+ghost use Rattle.std.specs.Prelude.{◌<◌};
+ghost use Rattle.std.specs.List.{AllByRecursion, AllByRecursion-prop};
+ghost use Rattle.std.proofs.Props.{props};
 ghost use Rattle.model.specs.Limits.{InLimit};
+ghost use Rattle.model.specs.Numbers.{numbers_of};
 ghost use Rattle.model.specs.Weighing.{total};
+
+use crate::PerFigure;
 
 mod methods;
 
 // A weight that may be entered: 1 to 8 parts up to 1,000,000, not all zero.
 #[derive(Clone, Copy)]
 pub struct Weight {
-    parts: [u32; 8],
-    count: usize,
-    ghost least: { 1 ≤ count },
-    ghost most: { count ≤ 8 },
-    ghost stored: { count ≤ length parts },
-    ghost limits: { (k : ℕ) → k < count → InLimit (slice_index parts k) },
-    ghost some: { 0 < total (take count parts) },
+    parts: PerFigure<u32>,
+    ghost limits: { AllByRecursion InLimit (numbers_of parts) } by { Prim.hlevel (props, AllByRecursion-prop) },
+    ghost some: { 0 < total (numbers_of parts) },
 }

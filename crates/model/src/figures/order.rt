@@ -22,10 +22,7 @@ impl Variant for Figures {
     }
 
     fn figure(&self, index: usize) -> u32 {
-        match self.values().get(index) {
-            Some(figure) => *figure,
-            None => 0,
-        }
+        self.values().get(index).copied().unwrap_or(0)
     }
 
     fn at_least_as_good(&self, other: &Figures) -> bool {
@@ -36,13 +33,9 @@ impl Variant for Figures {
 fn none_greater(figures: &[u32], others: &[u32]) -> bool
     ensures { result ≡ no_greater figures.now others.now }
 {
-    if figures.len() != others.len() {
-        return false;
-    }
-    for (index, figure) in figures.iter().enumerate() {
-        if *figure > others[index] {
-            return false;
-        }
-    }
-    true
+    figures.len() == others.len()
+        && figures
+            .iter()
+            .zip(others)
+            .all(|(figure, other)| figure <= other)
 }

@@ -1,30 +1,27 @@
-use Rattle.std.proofs.Common.{◌≡◌, ◌*◌, ◌≤◌, get_or, ap, ◌∙◌, mul-le-mul, arith}
-use Rattle.std.proofs.lemmas.List.{take_all}
-use Rattle.model.specs.Values.{figures_of}
-use Rattle.model.specs.Weighing.{score}
-use Rattle.model.specs.Stored.{limit_at, lent_few, lent_limit, figures_limits}
-use Rattle.model.proofs.Sums.{score_more}
+use Rattle.std.proofs.Common.{◌≡◌, ◌*◌, arith, inl, inr, ⊎_elim}
+use Rattle.std.specs.Iterator.Adapters.{zip_first, zip_second}
+use Rattle.std.specs.Slice.Iter.{iter_rest}
+use Rattle.model.specs.Values.{figures_of, parts_of}
+use Rattle.model.specs.Stored.{parts_limits, parts_count, figures_limits}
+use Rattle.model.proofs.Sums.{score_taken, score_done, score_limit}
 use Rattle.model.proofs.scoring.score.Goals as goal
 
--- a product is part times figure, each within the limit
-product : (c : goal.After-from-in-loop-index) → c.from.result * c.from-in-loop-index.result ≡ get_or c.parts-parts.result.now c.loop-index.index 0 * get_or (figures_of c.args.figures.now) c.loop-index.index 0
-product c = cc
-
-small : (c : goal.After-from-in-loop-index) → c.from.result * c.from-in-loop-index.result ≤ 1000000000000
-small c =
-    let part = lent_limit c.args.weight.now c.parts-parts.result.now c.parts-parts.ensures c.loop-index.index in
-    let figure = limit_at (figures_of c.args.figures.now) (figures_limits c.args.figures.now) c.loop-index.index in
-    rw (product c) (mul-le-mul part figure)
-
 pub overflow_add-sum : goal.overflow_add-sum
-overflow_add-sum c = omega (arith, small c, lent_few c.args.weight.now c.parts-parts.result.now c.parts-parts.ensures)
+overflow_add-sum c =
+    let weight = c.args.weight.now in
+    let figures = c.args.figures.now in
+    let next = score_taken c.in-Some.ensures.steps.0 c.in-Some.ensures.steps.1 in
+    let limit = score_limit (parts_of weight) (figures_of figures) (parts_limits weight) (figures_limits figures) in
+    let product : c.from.result * c.from-in-loop-part.result ≡ c.in-Some.part.now * c.in-Some.figure.now = cc in
+    omega (arith, parts_count weight, weight.parts.most, c.loop-part.invariant)
 
-pub loop-index-preserved : goal.loop-index-preserved
-loop-index-preserved c =
-    let more = score_more c.parts-parts.result.now (figures_of c.args.figures.now) c.loop-index.index c.loop-index-test.true in
-    (omega (arith, more, product c), omega (arith, small c))
+pub loop-part-preserved : goal.loop-part-preserved
+loop-part-preserved c =
+    let next = score_taken c.in-Some.ensures.steps.0 c.in-Some.ensures.steps.1 in
+    let product : c.from.result * c.from-in-loop-part.result ≡ c.in-Some.part.now * c.in-Some.figure.now = cc in
+    omega (arith, c.loop-part.invariant)
 
 pub returns : goal.returns
 returns c =
-    c.loop-index.invariant.0
-    ∙ ap (λ w. score w (figures_of c.args.figures.now)) (take_all c.loop-index.index c.parts-parts.result.now c.loop-index-test.false ∙ c.parts-parts.ensures)
+    let left = score_done (iter_rest (zip_first c.loop-part.part-iterator)) (iter_rest (zip_second c.loop-part.part-iterator)) (⊎_elim (λ h. inl h.1.0) (λ h. inr h.1.0) c.in-None.ensures.steps) in
+    omega (arith, c.loop-part.invariant)

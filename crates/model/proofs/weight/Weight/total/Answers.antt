@@ -1,25 +1,22 @@
-use Rattle.std.proofs.Common.{◌≤◌, ap, ◌∙◌, arith}
-use Rattle.std.proofs.lemmas.List.{take_all}
+use Rattle.std.proofs.Common.{◌≡◌, sum_by, rules, tests, arith, refl, sym, ap, ◌∙◌}
+use Rattle.std.proofs.lemmas.Iterator.Adapters.{fits_from_length, at_most_from_yields_List}
+use Rattle.std.proofs.lemmas.Iterator.{YieldsList-from_slice}
+use Rattle.std.proofs.lemmas.List.Recursion.{is_sum_by}
 use Rattle.model.specs.Weighing.{total}
-use Rattle.model.specs.Stored.{lent_few, lent_limit}
-use Rattle.model.proofs.Sums.{total_more}
+use Rattle.model.specs.Stored.{lent_few, parts_limits, parts_count}
+use Rattle.model.specs.Values.{parts_of}
+use Rattle.model.proofs.Sums.{total_limit}
 use Rattle.model.proofs.weight.Weight.total.Goals as goal
 
-part_limit : (c : goal.After-from-sum) → c.from-sum.result ≤ 1000000
-part_limit c = omega (arith, lent_limit c.args.self.now c.parts-parts.result.now c.parts-parts.ensures c.loop-part.part-index)
-
-pub overflow_add-sum : goal.overflow_add-sum
-overflow_add-sum c = omega (arith, part_limit c, lent_few c.args.self.now c.parts-parts.result.now c.parts-parts.ensures)
-
-pub loop-part-preserved : goal.loop-part-preserved
-loop-part-preserved c =
-    let more = total_more c.parts-parts.result.now c.loop-part.part-index c.loop-part-test.true in
-    (omega arith, omega (arith, part_limit c))
+pub sum-requires-clause-fits : goal.sum-requires-clause-fits
+sum-requires-clause-fits c =
+    fits_from_length _ _ 8 _ (at_most_from_yields_List (YieldsList-from_slice c.parts.result.now cc) (lent_few c.args.self.now c.parts.result.now c.parts.ensures)) c.map.ensures.closure (omega arith) (λ x r q k. search (rules, tests))
 
 pub returns : goal.returns
 returns c =
-    let parts = c.parts-parts.result.now in
+    let same : sum_by (λ part. part) c.parts.result.now ≡ total (parts_of c.args.self.now) = sym (is_sum_by total (λ part. part) refl (λ _ _. refl) c.parts.result.now) ∙ ap total c.parts.ensures in
+    let value : c.sum.result ≡ total (parts_of c.args.self.now) = search (rules, same) in
     record {
-      value = c.loop-part.invariant.0 ∙ ap total (take_all c.loop-part.part-index parts c.loop-part-test.false ∙ c.parts-parts.ensures);
-      bound = omega (arith, lent_few c.args.self.now parts c.parts-parts.ensures);
+      value = value;
+      bound = omega (arith, total_limit (parts_of c.args.self.now) (parts_limits c.args.self.now), parts_count c.args.self.now, c.args.self.now.parts.most);
     }

@@ -1,0 +1,32 @@
+ghost use Rattle.std.specs.Prelude.{◌≡◌, Some};
+ghost use Rattle.model.specs.Answers.{top_word};
+
+use std::fmt;
+
+// Whether some admissible weight makes the variant the single best.
+#[derive(Clone, Copy, PartialEq, Eq, Debug)]
+pub enum TopAnswer {
+    First,
+    Never,
+    Open,
+}
+
+impl TopAnswer {
+    pub fn word(self) -> &'static str
+        ensures { result.now ≡ top_word self }
+    {
+        match self {
+            TopAnswer::First => "first",
+            TopAnswer::Never => "never",
+            TopAnswer::Open => "open",
+        }
+    }
+}
+
+impl fmt::Display for TopAnswer {
+    ghost output = { λ answer. Some (top_word answer) };
+
+    fn fmt<W: fmt::Write>(&self, f: &mut fmt::Formatter<W>) -> fmt::Result {
+        f.write_str(self.word())
+    }
+}
