@@ -1,4 +1,4 @@
-ghost use Rattle.std.specs.Prelude.{◌≡◌};
+ghost use Rattle.std.specs.Prelude.{◌≡◌, ◌≤◌, pos, slice_index_or, unsigned_abs};
 ghost use Rattle.model.specs.Limits.{difference_grounds};
 ghost use Rattle.model.specs.Refusals.{Checked};
 ghost use Rattle.model.specs.Values.{entries_of};
@@ -23,5 +23,13 @@ impl Difference {
         ensures { result.now ≡ entries_of self.now }
     {
         self.entries.as_slice()
+    }
+
+    // The entry at a place from 0, and 0 past the last.
+    pub fn entry(&self, index: usize) -> i64
+        ensures value { result ≡ slice_index_or (entries_of self.now) index (pos 0) }
+        ensures size { unsigned_abs result ≤ 1000000000000 }
+    {
+        self.entries().get(index).copied().unwrap_or(0)
     }
 }
