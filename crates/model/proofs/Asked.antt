@@ -1,10 +1,12 @@
 -- A question that no ground meets, and what the laws say of its answer.
 use Rattle.std.proofs.Common.{◌≡◌, ℕ, ◌<◌, ◌≤◌, Bool, List, [], ◌∷◌, length, ℤ, Decides, sym, ap, ◌∙◌, subst, inl, inr, arith}
+use Rattle.std.specs.Prelude.{Ok, Err, Result, MatchOption}
+use Rattle.std.specs.Result.{result_ok}
 use Rattle.std.specs.List.{AllByRecursion}
 use Rattle.model.specs.Limits.{IsFigureCount, InLimit, InRange, Proper, Ranged, difference_grounds, weight_grounds}
 use Rattle.model.specs.Meaning.{Meaning, Lawful}
 use Rattle.model.specs.Questions.{weight_question, difference_question, Judges}
-use Rattle.model.specs.Refusals.{Refuses, Unopposed}
+use Rattle.model.specs.Refusals.{Refuses, Unopposed, Checked}
 use Rattle.model.specs.Values.{parts_of, entries_of}
 use Rattle.model.specs.Weighing.{total}
 use Rattle.model.specs.declared.difference.Difference.{Difference}
@@ -51,3 +53,8 @@ module _ (m : Meaning) (lawful : Lawful m) where
         unopposed _ _ _ (λ wrong. wrong (dims, width)) (unopposed _ _ _ (λ wrong. wrong count) (unopposed _ _ _ (λ wrong. wrong limits) (unopposed _ _ _ (λ wrong. wrong ranged.range) unopposed_end))),
         record { rule = answer; safe = λ h. lawful.safe entries multipliers ranged (record { count = count; limits = limits }) (sym answer ∙ h) },
       )
+
+-- entries of the right number as a difference, where they are within the range
+pub difference_or_none : (entries : List ℤ) (made : Result Difference Refusal) → IsFigureCount (length entries) → Checked (difference_grounds entries) made (λ difference. entries_of difference ≡ entries) → MatchOption (result_ok made) (AllByRecursion InRange entries → ⊥) (λ difference. entries_of difference ≡ entries)
+difference_or_none entries (Ok difference) count checked = checked.1
+difference_or_none entries (Err refusal) count checked = λ range. difference_unopposed entries count range refusal checked.meets

@@ -1,4 +1,5 @@
 pub mod Asked
+pub mod Found
 pub mod Machine
 pub mod Mixtures
 pub mod Pairs

@@ -17,7 +17,8 @@ use Rattle.model.specs.Each.{Decides-in_range, Decides-no}
 use Rattle.model.proofs.Weighed.{spread_alike, weighed-spread}
 use Rattle.preferences.specs.Constraints.{Constraint, Keeps, effective, lift, shows}
 use Rattle.preferences.specs.FurtherRows.{with_row, further_judged, further_meaning, further_grounds, JoinsRows}
-use Rattle.preferences.specs.Judging.{judgement, JudgesLawfully}
+use Rattle.model.specs.Judging.{judgement}
+use Rattle.preferences.specs.Judging.{JudgesLawfully}
 use Rattle.preferences.proofs.Certificates.{row_weighed, left_weighed}
 use Rattle.preferences.proofs.Rules.{Decides-shows}
 

@@ -5,7 +5,7 @@ use Rattle.std.proofs.lemmas.Bool.{cond-true, cond-false, eq-eqb}
 use Rattle.std.proofs.lemmas.Bool.Decides.{same_from_decides}
 use Rattle.model.specs.declared.judgement.Judgement.{Judgement}
 use Rattle.model.specs.Each.{Decides-no}
-use Rattle.preferences.specs.Judging.{judgement}
+use Rattle.model.specs.Judging.{judgement}
 
 -- the judgement where the rule holds, and where it does not
 pub judgement_shown : {P : Type 0} (t : Bool) → Decides t P → P → Judgement.Shown ≡ judgement t

@@ -1,16 +1,18 @@
 -- Why sums of first entries prove something of every weight whose parts never rise, and the laws of a ranking.
-use Rattle.std.specs.Prelude.{◌≡◌, ℕ, zero, suc, ◌+◌, ◌-◌, ◌<◌, ◌≤◌, List, [], ◌∷◌, length, replicate, ℤ, pos, ◌+ℤ◌, ◌*ℤ◌, ◌≤ℤ◌, Decides, slice_index, slice_index_or, refl}
-use Rattle.std.proofs.Common.{sym, ap, ◌∙◌, arith}
+use Rattle.std.specs.Prelude.{◌≡◌, ℕ, zero, suc, ◌+◌, ◌-◌, ◌<◌, ◌≤◌, List, [], ◌∷◌, length, replicate, ℤ, pos, ◌+ℤ◌, ◌*ℤ◌, ◌≤ℤ◌, Bool, true, false, nat_le, Decides, slice_index, slice_index_or, refl}
+use Rattle.std.proofs.Common.{sym, ap, subst, ◌∙◌, add-one, arith}
 use Rattle.std.proofs.lemmas.Int.{ints}
 use Rattle.std.proofs.Math.IntN.{+ℤ_idl, +ℤ_idr, +ℤ_assoc, *ℤ-zero}
-use Rattle.std.specs.List.{AllByRecursion}
+use Rattle.std.specs.List.{AllByRecursion, IsAllAdjacentAnswer}
+use borrow.Author.Tests.{both_ways}
+use Rattle.std.proofs.lemmas.Bool.{leb-true, le-leb}
 use Rattle.std.proofs.lemmas.List.{get_or-replicate, length-replicate}
 use Rattle.std.proofs.lemmas.Bool.Decides.{Decides-and, Decides-eqb, Decides-below_and, Decides-like}
 use Rattle.model.specs.Limits.{InLimit, Ranged}
 use Rattle.model.specs.Meaning.{SampleOf, Lawful, Safe}
 use Rattle.model.specs.Weighing.{total, weighed}
 use Rattle.model.specs.declared.judgement.Judgement.{Judgement}
-use Rattle.model.specs.Each.{Decides-leb}
+use Rattle.model.specs.Each.{Decides-leb, Decides-yes, Decides-no}
 use Rattle.model.proofs.Weighed.{times_add, add_times, times_nonneg}
 use Rattle.preferences.specs.Rankings.{NeverRises, Ranked, no_step_rises, never_rises, ranking_admits, first_sum, ranking_shows, ranking_meaning}
 use Rattle.preferences.proofs.Judged.{judgement_shown, shown_holds}
@@ -58,6 +60,11 @@ pub Decides-never_rises : (weight : List ℕ) → Decides (never_rises weight) (
 Decides-never_rises weight =
     Decides-like (never_rises weight) (λ h i below. h i (omega arith)) (λ h i below. h i (omega arith))
     (Decides-below_and (λ i. _) (λ i. slice_index weight (suc i) ≤ slice_index weight i) (no_step_rises weight) (λ i. Decides-leb (slice_index weight (suc i)) (slice_index weight i)) refl (λ _. refl) (length weight - 1))
+
+-- each part was found to be no greater than the one before it
+pub Decides-adjacent : (weight : List ℕ) (r : Bool) → IsAllAdjacentAnswer (λ before part b. b ≡ nat_le part before) weight r → Decides r (NeverRises weight)
+Decides-adjacent weight true h = Decides-yes (λ i below. leb-true _ _ (sym (subst (λ k. true ≡ nat_le (slice_index_or weight k 0) (slice_index weight i)) (add-one i) (h i 0 (omega arith)))))
+Decides-adjacent weight false h = Decides-no (λ falls. both_ways _ (sym (h.2 0)) (le-leb _ _ (subst (λ k. slice_index weight k ≤ slice_index weight h.0) (sym (add-one h.0)) (falls h.0 (omega (arith, h.1))))))
 
 Decides-ranked : (d : ℕ) (weight : List ℕ) → 0 < total weight → Decides (ranking_admits d weight) (Ranked d weight)
 Decides-ranked d weight some =

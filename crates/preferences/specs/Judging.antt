@@ -1,13 +1,9 @@
--- What is said of a kind's rule that has no range, and what the laws ask of a kind's rule.
-use Rattle.std.specs.Prelude.{◌≡◌, ℕ, Bool, cond, List, replicate, ℤ, pos, ◌≤ℤ◌}
+-- What the laws of a preference ask of its judgements.
+use Rattle.std.specs.Prelude.{◌≡◌, ℕ, List, replicate, ℤ, pos, ◌≤ℤ◌}
 use Rattle.std.specs.List.{AllByRecursion}
 use Rattle.model.specs.Limits.{Ranged}
 use Rattle.model.specs.Meaning.{Meaning, Certificate, Safe}
 use Rattle.model.specs.declared.judgement.Judgement.{Judgement}
-
--- shown where the rule holds
-abbrev pub judgement : Bool → Judgement
-judgement holds = cond holds Judgement.Shown Judgement.NotShown
 
 -- The laws of a preference that speak of its judgements: a difference that a certificate shows is safe, and zeros show every difference without a negative entry.
 pub record JudgesLawfully (m : Meaning) : Type 0 where

@@ -6,7 +6,7 @@ use Rattle.model.specs.Refusals.{line, end}
 use Rattle.model.specs.Weighing.{total}
 use Rattle.model.specs.declared.refusal.Refusal.{Refusal}
 use Rattle.preferences.specs.Constraints.{none_negative}
-use Rattle.preferences.specs.Judging.{judgement}
+use Rattle.model.specs.Judging.{judgement}
 
 -- the parts of a weight never rise from first to last
 abbrev pub NeverRises : List ℕ → Type 0

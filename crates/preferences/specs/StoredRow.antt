@@ -1,7 +1,7 @@
 -- What a stored row stands for.
-use Rattle.std.specs.Prelude.{take}
+use Rattle.model.specs.Numbers.{numbers_of}
 use Rattle.preferences.specs.Constraints.{Constraint}
 use Rattle.preferences.specs.declared.row.Row.{Row}
 
 abbrev pub constraint_of : Row → Constraint
-constraint_of row = record { coefficients = take row.count row.coefficients; bound = row.bound }
+constraint_of row = record { coefficients = numbers_of row.coefficients; bound = row.bound }

@@ -12,8 +12,7 @@ use model::Weight;
 mod asked;
 mod flat;
 mod made;
-
-pub(crate) use flat::within_row_limit;
+mod multiplied;
 
 // A preference given by rows, at most 16 of them, with a sample weight.
 #[derive(Drop)]

@@ -9,9 +9,8 @@ ghost use Rattle.preferences.specs.Stored.{Tops};
 ghost use Rattle.preferences.specs.StoredRow.{constraint_of};
 
 use crate::further_row::FurtherRow;
-use crate::row::Row;
-use crate::rows::within_row_limit;
-use model::{HandedBack, Preference, Refusal, Weight};
+use crate::row::{ROW_LIMIT, Row};
+use model::{HandedBack, Preference, Refusal, Weight, all_within};
 
 impl<P: Preference> FurtherRow<P> {
     // One row over `below`, given as its coefficients and then its bound. A refusal hands `below` back.
@@ -23,10 +22,7 @@ impl<P: Preference> FurtherRow<P> {
         ensures { HandsBack (further_grounds (P.meaning below) numbers.now sample.now) below result (Tops (P.meaning below).dims below numbers.now sample.now) }
     {
         match row_and_sample(&below, numbers, sample) {
-            Ok(checked) => {
-                let (row, sample) = checked;
-                Ok(FurtherRow { below, row, sample })
-            }
+            Ok((row, sample)) => Ok(FurtherRow { below, row, sample }),
             Err(refusal) => Err(HandedBack {
                 value: below,
                 error: refusal,
@@ -44,20 +40,18 @@ fn row_and_sample<P: Preference>(
     ensures { Checked (further_grounds (P.meaning below.now) numbers.now sample.now) result (λ made. (constraint_of made.0 ≡ row_at_front (P.meaning below.now).dims numbers.now) × (parts_of made.1 ≡ sample.now)) }
 {
     let dims = below.dims();
-    if dims < 1 || dims > 8 {
+    if !(1..=8).contains(&dims) {
         return Err(Refusal::FigureCount);
     }
     if numbers.len() != dims + 1 || below.multipliers() > 63 {
         return Err(Refusal::Rows);
     }
-    if !within_row_limit(numbers) {
+    if !all_within(numbers, ROW_LIMIT) {
         return Err(Refusal::Rows);
     }
     let row = Row::read(dims, numbers);
-    let Some(weight) = admissible_sample(below, &row, sample) else {
-        return Err(Refusal::Sample);
-    };
-    Ok((row, weight))
+    let sample = admissible_sample(below, &row, sample).ok_or(Refusal::Sample)?;
+    Ok((row, sample))
 }
 
 // The sample as a weight, where it is proper, admissible below, and keeps the row.
@@ -66,11 +60,5 @@ fn admissible_sample<P: Preference>(below: &P, row: &Row, sample: &[u32]) -> Opt
     ensures { Sampled (further_meaning (P.meaning below.now) (constraint_of row.now) sample.now) sample.now result }
 {
     let weight = Weight::of_width(below.dims(), sample)?;
-    if !below.admits(&weight) {
-        return None;
-    }
-    if !row.keeps(&weight) {
-        return None;
-    }
-    Some(weight)
+    (below.admits(&weight) && row.keeps(&weight)).then_some(weight)
 }

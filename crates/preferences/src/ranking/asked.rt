@@ -26,22 +26,14 @@ impl Preference for Ranking {
     }
 
     fn admits(&self, weight: &Weight) -> bool {
-        let parts = weight.parts();
-        if parts.len() != self.dims {
-            return false;
-        }
-        never_rises(parts)
+        weight.parts().len() == self.dims && never_rises(weight.parts())
     }
 
     fn judge(&self, difference: &Difference, multipliers: &[u32]) -> Judgement {
         if difference.entries().len() != self.dims || !multipliers.is_empty() {
             return Judgement::NotShown;
         }
-        if no_sum_negative(difference) {
-            Judgement::Shown
-        } else {
-            Judgement::NotShown
-        }
+        Judgement::from(no_sum_negative(difference))
     }
 }
 
@@ -49,21 +41,15 @@ impl Preference for Ranking {
 fn never_rises(parts: &[u32]) -> bool
     ensures { Decides result (NeverRises parts.now) }
 {
-    for index in 1..parts.len() {
-        if parts[index] > parts[index - 1] {
-            return false;
-        }
-    }
-    true
+    parts.is_sorted_by(|before, part| part <= before)
 }
 
 // Whether the sums of the first entry, of the first two, and so on to all of them are not negative.
 fn no_sum_negative(difference: &Difference) -> bool
     ensures { Decides result ((n : ℕ) → n < length (entries_of difference.now) → pos 0 ≤ℤ first_sum (entries_of difference.now) (suc n)) }
 {
-    let entries = difference.entries();
     let mut sum: i64 = 0;
-    for entry in entries {
+    for entry in difference.entries() {
         sum += *entry;
         if sum < 0 {
             return false;

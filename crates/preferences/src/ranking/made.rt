@@ -11,7 +11,7 @@ impl Ranking {
     pub fn new(dims: usize) -> Result<Ranking, Refusal>
         ensures { Checked (ranking_grounds dims) result (λ made. (made.dims ≡ dims) × SampleOf (ranking_meaning dims) (ranking_meaning dims).sample) }
     {
-        if dims < 1 || dims > 8 {
+        if !(1..=8).contains(&dims) {
             return Err(Refusal::FigureCount);
         }
         Ok(Ranking { dims })

@@ -1,6 +1,6 @@
-ghost use Rattle.std.specs.Prelude.{◌≡◌, ◌+◌, ◌≤◌, length, take, pos, ◌*ℤ◌, Decides, MatchOption, slice_index_or, unsigned_abs};
+ghost use Rattle.std.specs.Prelude.{◌≡◌, ◌+◌, ◌≤◌, length, pos, ◌+ℤ◌, ◌*ℤ◌, Decides, MatchOption, slice_index_or, unsigned_abs};
 ghost use Rattle.std.specs.List.{AllByRecursion};
-ghost use Rattle.model.specs.Limits.{InRange};
+ghost use Rattle.model.specs.Limits.{InRange, IsFigureCount};
 ghost use Rattle.model.specs.Values.{entries_of, parts_of};
 ghost use Rattle.model.specs.Weighing.{total, weighed as weighed_by};
 ghost use Rattle.preferences.specs.Constraints.{InRowLimit, Keeps, effective as effective_of};
@@ -9,40 +9,39 @@ ghost use Rattle.preferences.specs.RowList.{row_at_front};
 ghost use Rattle.preferences.specs.StoredRow.{constraint_of};
 
 use crate::row::Row;
-use model::{Difference, Weight, padded};
+use model::{Difference, PerFigure, Weight};
+use std::array;
 
 impl Row {
     // The row at the front of a list of numbers: `dims` coefficients and a bound.
     pub(crate) fn read(dims: usize, numbers: &[i32]) -> Row
-        requires { (dims ≤ 8) × ((dims + 1 ≤ length numbers.now) × (AllByRecursion InRowLimit numbers.now)) }
+        requires figures { IsFigureCount dims }
+        requires whole { dims + 1 ≤ length numbers.now }
+        requires limits { AllByRecursion InRowLimit numbers.now }
         ensures { constraint_of result ≡ row_at_front dims numbers.now }
     {
-        let coefficients = padded(&numbers[0..dims], 0);
         Row {
-            coefficients,
+            coefficients: PerFigure::new(&numbers[..dims]).unwrap(),
             bound: numbers[dims],
-            count: dims,
-        }
-    }
-
-    // The coefficient at a figure, and 0 past the last.
-    fn coefficient(&self, index: usize) -> i64
-        ensures value { result ≡ slice_index_or (constraint_of self.now).coefficients index (pos 0) }
-        ensures size { unsigned_abs result ≤ 10000 }
-    {
-        if index < self.count {
-            i64::from(self.coefficients[index])
-        } else {
-            0
         }
     }
 
     // The coefficient at a figure less the bound.
-    pub(crate) fn effective(&self, index: usize) -> i64
+    fn effective(&self, index: usize) -> i64
         ensures value { result ≡ effective_of (constraint_of self.now) index }
         ensures size { unsigned_abs result ≤ 20000 }
     {
-        self.coefficient(index) - i64::from(self.bound)
+        let coefficients = self.coefficients.as_slice();
+        let coefficient = coefficients.get(index).copied().unwrap_or(0);
+        i64::from(coefficient) - i64::from(self.bound)
+    }
+
+    // What a multiplier of the row adds at a figure.
+    pub(crate) fn times(&self, multiplier: u32, index: usize) -> i64
+        ensures value { result ≡ pos multiplier *ℤ effective_of (constraint_of self.now) index }
+        ensures size { unsigned_abs result ≤ 85899345920000 }
+    {
+        i64::from(multiplier) * self.effective(index)
     }
 
     // The sum of part times coefficient.
@@ -50,10 +49,9 @@ impl Row {
         ensures value { result ≡ weighed_by (parts_of weight.now) (constraint_of self.now).coefficients }
         ensures size { unsigned_abs result ≤ 80000000000 }
     {
-        let parts = weight.parts();
         let mut sum: i64 = 0;
-        for (index, part) in parts.iter().enumerate() {
-            sum += i64::from(*part) * self.coefficient(index);
+        for (part, coefficient) in weight.parts().iter().zip(self.coefficients.as_slice()) {
+            sum += i64::from(*part) * i64::from(*coefficient);
         }
         sum
     }
@@ -71,24 +69,15 @@ impl Row {
     pub(crate) fn added_to(&self, difference: &Difference, multiplier: u32) -> Option<Difference>
         ensures { MatchOption result (AllByRecursion InRange (with_row (constraint_of self.now) multiplier (entries_of difference.now)) → ⊥) (λ sum. entries_of sum ≡ with_row (constraint_of self.now) multiplier (entries_of difference.now)) }
     {
-        let entries = difference.entries();
-        let sums = self.sums(difference, multiplier);
-        match Difference::new(&sums[0..entries.len()]) {
-            Ok(sum) => Some(sum),
-            Err(_) => None,
-        }
+        let sums: [i64; 8] = array::from_fn(|index| self.sum(difference, multiplier, index));
+        Difference::new(&sums[..difference.entries().len()]).ok()
     }
 
-    // The sums for `added_to`, one at each figure of the difference.
-    fn sums(&self, difference: &Difference, multiplier: u32) -> [i64; 8]
-        ensures { take (length (entries_of difference.now)) result ≡ with_row (constraint_of self.now) multiplier (entries_of difference.now) }
+    // The sum for `added_to` at a figure.
+    fn sum(&self, difference: &Difference, multiplier: u32, index: usize) -> i64
+        ensures { result ≡ slice_index_or (entries_of difference.now) index (pos 0) +ℤ (pos multiplier *ℤ effective_of (constraint_of self.now) index) }
     {
-        let entries = difference.entries();
-        let mut sums = [0; 8];
-        for (index, entry) in entries.iter().enumerate() {
-            sums[index] = *entry + i64::from(multiplier) * self.effective(index);
-        }
-        sums
+        difference.entry(index) + self.times(multiplier, index)
     }
 
     // Whether the weight keeps the row.

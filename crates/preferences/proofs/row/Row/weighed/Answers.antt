@@ -1,40 +1,60 @@
-use Rattle.std.proofs.Common.{◌≡◌, ◌+◌, ◌*◌, ◌≤◌, ℤ, nat_abs, refl, ap, ◌∙◌, arith, lit<}
-use Rattle.std.proofs.lemmas.List.{take_all}
-use Rattle.model.specs.Weighing.{weighed}
-use Rattle.model.proofs.Machine.{Added, added}
-use Rattle.model.specs.Stored.{lent_few, lent_limit}
-use Rattle.model.proofs.Sums.{weighed_more}
+use Rattle.std.proofs.Common.{◌≡◌, ◌+◌, ◌*◌, ◌≤◌, length, ℤ, pos, nat_abs, ◌*ℤ◌, ap, subst, inl, inr, ⊎_elim, arith, lit<, le_refl, rules}
+use borrow.Author.Differences.{ints}
+use Rattle.std.proofs.Math.IntN.{+ℤ_idl}
+use Rattle.std.specs.Iterator.Adapters.{zip_first, zip_second}
+use Rattle.std.specs.List.{AllByRecursion}
+use Rattle.std.specs.Slice.Iter.{iter_rest}
+use Rattle.model.specs.Limits.{InLimit}
+use Rattle.model.specs.Values.{parts_of}
+use Rattle.model.specs.Stored.{parts_limits, parts_count}
+use Rattle.model.proofs.Machine.{Added, added, one_less_left}
+use Rattle.model.proofs.Sums.{weighed_taken, weighed_done}
+use Rattle.preferences.specs.Constraints.{InRowLimit}
 use Rattle.preferences.specs.StoredRow.{constraint_of}
 use Rattle.preferences.proofs.row.Row.weighed.Goals as goal
 
+-- the part and the coefficient of this turn are within their limits
+taken : (c : goal.After-from-in-loop-part) → (nat_abs c.from.result ≤ 1000000) × (nat_abs c.from-in-loop-part.result ≤ 10000)
+taken c =
+    let parts = subst (AllByRecursion InLimit) c.in-Some.ensures.steps.0 c.loop-part.invariant.2 in
+    let coefficients = subst (AllByRecursion InRowLimit) c.in-Some.ensures.steps.1 c.loop-part.invariant.3 in
+    let coefficient = coefficients.0 in
+    (rw c.from.ensures parts.0, omega (arith, ints))
+
 -- one product more
-step : (c : goal.After-coefficient) (sum : ℤ) → sum ≡ c.loop-index.sum → nat_abs sum ≤ 10000000000 * c.loop-index.index → Added sum c.from.result c.coefficient.result (10000000000 * c.loop-index.index + 1000000 * 10000)
+step : (c : goal.After-from-in-loop-part) (sum : ℤ) → sum ≡ c.loop-part.sum → nat_abs sum ≤ 80000000000 → Added sum c.from.result c.from-in-loop-part.result (nat_abs sum + 1000000 * 10000)
 step c sum is size =
-    let parts = c.parts-parts.result.now in
-    let part : nat_abs c.from.result ≤ 1000000 = rw c.from.ensures (lent_limit c.args.weight.now parts c.parts-parts.ensures c.loop-index.index) in
-    added sum c.from.result c.coefficient.result (10000000000 * c.loop-index.index) 1000000 10000 size part c.coefficient.ensures.size (lit< tt) (lit< tt)
-    (omega (arith, lent_few c.args.weight.now parts c.parts-parts.ensures))
+    added sum c.from.result c.from-in-loop-part.result (nat_abs sum) 1000000 10000 (le_refl (nat_abs sum)) (taken c).0 (taken c).1 (lit< tt) (lit< tt) (omega (arith, size))
+
+pub loop-part-init : goal.loop-part-init
+loop-part-init c =
+    let weight = c.args.weight.now in
+    let first : iter_rest (zip_first c.into_iter-part-iterator.result) ≡ parts_of weight = search rules in
+    let second : iter_rest (zip_second c.into_iter-part-iterator.result) ≡ (constraint_of c.args.self.now).coefficients = search rules in
+    rw (first, second) (+ℤ_idl _, omega (arith, parts_count weight, weight.parts.most), parts_limits weight, c.args.self.now.limits)
 
 pub overflow_mul-sum : goal.overflow_mul-sum
-overflow_mul-sum c = (step c _ c.loop-index.sum-is c.loop-index.invariant.1).product
+overflow_mul-sum c = (step c _ c.loop-part.sum-is (omega (arith, c.loop-part.invariant.1))).product
 
 pub overflow_add-sum : goal.overflow_add-sum
-overflow_add-sum c = (step c _ c.loop-index.sum-is c.loop-index.invariant.1).fits
+overflow_add-sum c = (step c _ c.loop-part.sum-is (omega (arith, c.loop-part.invariant.1))).fits
 
-pub loop-index-init : goal.loop-index-init
-loop-index-init c = (refl, omega arith)
-
-pub loop-index-preserved : goal.loop-index-preserved
-loop-index-preserved c =
-    let more = weighed_more c.parts-parts.result.now (constraint_of c.args.self.now).coefficients c.loop-index.index c.loop-index-test.true in
-    let next = step c _ c.loop-index.sum-is c.loop-index.invariant.1 in
-    (cc, rw next.value (omega (arith, next.size)))
+pub loop-part-preserved : goal.loop-part-preserved
+loop-part-preserved c =
+    let next = step c _ c.loop-part.sum-is (omega (arith, c.loop-part.invariant.1)) in
+    let parts = subst (AllByRecursion InLimit) c.in-Some.ensures.steps.0 c.loop-part.invariant.2 in
+    let coefficients = subst (AllByRecursion InRowLimit) c.in-Some.ensures.steps.1 c.loop-part.invariant.3 in
+    let left = weighed_taken c.in-Some.ensures.steps.0 c.in-Some.ensures.steps.1 in
+    let limit = coefficients.0 in
+    let coefficient : c.from-in-loop-part.result ≡ c.in-Some.coefficient.now = omega (arith, ints) in
+    let product : c.from.result *ℤ c.from-in-loop-part.result ≡ pos c.in-Some.part.now *ℤ c.in-Some.coefficient.now = cc in (
+      one_less_left _ _ _ _ _ _ _ next.value product left c.loop-part.invariant.0,
+      rw next.value (omega (arith, next.size, c.loop-part.invariant.1, ap length c.in-Some.ensures.steps.0)),
+      parts.1,
+      coefficients.1,
+    )
 
 pub returns : goal.returns
 returns c =
-    let parts = c.parts-parts.result.now in
-    let coefficients = (constraint_of c.args.self.now).coefficients in
-    record {
-      value = c.loop-index.invariant.0 ∙ ap (λ w. weighed w coefficients) (take_all c.loop-index.index parts c.loop-index-test.false ∙ c.parts-parts.ensures);
-      size = omega (arith, c.loop-index.invariant.1, lent_few c.args.weight.now parts c.parts-parts.ensures);
-    }
+    let none = weighed_done (iter_rest (zip_first c.loop-part.part-iterator)) (iter_rest (zip_second c.loop-part.part-iterator)) (⊎_elim (λ h. inl h.1.0) (λ h. inr h.1.0) c.in-None.ensures.steps) in
+    record { value = omega (arith, ints, c.loop-part.invariant.0); size = omega (arith, c.loop-part.invariant.1) }
