@@ -20,14 +20,7 @@ impl Variant for CoverSheet {
     }
 
     fn figure(&self, index: usize) -> u32 {
-        match index {
-            0 => self.terms.premium,
-            1 => self.terms.own_share,
-            2 => LIMIT - self.terms.sum_covered,
-            3 => self.terms.waiting_days,
-            4 => count_set(&self.terms.exclusions),
-            _ => 0,
-        }
+        self.figures().get(index).copied().unwrap_or(0)
     }
 
     fn at_least_as_good(&self, other: &CoverSheet) -> bool {
@@ -38,6 +31,20 @@ impl Variant for CoverSheet {
             && terms.waiting_days <= others.waiting_days
             && terms.sum_covered >= others.sum_covered
             && all_set_too(&terms.exclusions, &others.exclusions)
+    }
+}
+
+impl CoverSheet {
+    fn figures(&self) -> [u32; 5]
+        ensures { result ≡ cover_figures self.now.terms }
+    {
+        [
+            self.terms.premium,
+            self.terms.own_share,
+            LIMIT - self.terms.sum_covered,
+            self.terms.waiting_days,
+            count_set(&self.terms.exclusions),
+        ]
     }
 }
 
