@@ -1,34 +1,19 @@
 -- A question that no ground meets, and what the laws say of its answer.
-use Rattle.std.proofs.Common.{◌≡◌, ℕ, ◌<◌, ◌≤◌, Bool, List, [], ◌∷◌, length, ℤ, Decides, sym, ap, ◌∙◌, subst, inl, inr, arith}
+use Rattle.std.proofs.Common.{◌≡◌, ℕ, Bool, List, length, ℤ, Decides, sym, ap, ◌∙◌, subst, arith}
 use Rattle.std.specs.Prelude.{Ok, Err, Result, MatchOption}
 use Rattle.std.specs.Result.{result_ok}
 use Rattle.std.specs.List.{AllByRecursion}
-use Rattle.model.specs.Limits.{IsFigureCount, InLimit, InRange, Proper, Ranged, difference_grounds, weight_grounds}
+use Rattle.model.specs.Limits.{IsFigureCount, InLimit, InRange, Ranged, difference_grounds}
 use Rattle.model.specs.Meaning.{Meaning, Lawful}
 use Rattle.model.specs.Questions.{weight_question, difference_question, Judges}
-use Rattle.model.specs.Refusals.{Refuses, Unopposed, Checked}
+use Rattle.model.specs.Refusals.{Unopposed, Checked}
 use Rattle.model.specs.Values.{parts_of, entries_of}
-use Rattle.model.specs.Weighing.{total}
 use Rattle.model.specs.declared.difference.Difference.{Difference}
 use Rattle.model.specs.declared.judgement.Judgement.{Judgement}
 use Rattle.model.specs.declared.refusal.Refusal.{Refusal}
 use Rattle.model.specs.declared.weight.Weight.{Weight}
 use Rattle.model.specs.Stored.{made_proper, parts_count, entries_ranged, entries_count}
 use Rattle.model.proofs.Tables.{unopposed, unopposed_end}
-
--- a weight that is not all zero has a part
-some_part : (weight : List ℕ) → 0 < total weight → 1 ≤ length weight
-some_part [] h = absurd (omega arith)
-some_part (part ∷ parts) h = omega arith
-
--- a proper weight of at most 8 figures is not refused
-pub proper_made : (d : ℕ) (weight : List ℕ) (r : Refusal) → d ≤ 8 → Proper d weight → Refuses (weight_grounds weight) r → ⊥
-proper_made d weight r few proper refuses = met refuses.meets
-  where
-    met : weight_grounds weight r → ⊥
-    met (inl h) = h.1 (some_part weight proper.some, omega (arith, proper.width))
-    met (inr (inl h)) = h.1 (proper.limits, proper.some)
-    met (inr (inr h)) = h
 
 -- 1 to 8 entries within the range are not refused
 pub difference_unopposed : (entries : List ℤ) → IsFigureCount (length entries) → AllByRecursion InRange entries → Unopposed (difference_grounds entries)

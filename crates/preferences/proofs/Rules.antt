@@ -27,7 +27,7 @@ Decides-keeps weight row = Decides-le (weighed weight row.coefficients) _
 
 pub Decides-keep : (weight : List ℕ) (rows : List Constraint) → Decides (all_keep weight rows) (AllByRecursion (Keeps weight) rows)
 Decides-keep weight rows =
-    Decides-by_and _ (Keeps weight) (all_keep weight) (λ row. Decides-le (weighed weight row.coefficients) _) refl (λ _ _. refl) rows
+    Decides-by_and _ (Keeps weight) (all_keep weight) (Decides-keeps weight) refl (λ _ _. refl) rows
 
 pub Decides-none_negative : (value : ℕ → ℤ) (n : ℕ) → Decides (none_negative value n) ((i : ℕ) → i < n → pos 0 ≤ℤ value i)
 Decides-none_negative value n = Decides-below_and (λ i. non_neg (value i)) (λ i. pos 0 ≤ℤ value i) (none_negative value) (λ i. Decides-nonneg (value i)) refl (λ _. refl) n

@@ -48,8 +48,9 @@ fn never_rises(parts: &[u32]) -> bool
 fn no_sum_negative(difference: &Difference) -> bool
     ensures { Decides result ((n : ℕ) → n < length (entries_of difference.now) → pos 0 ≤ℤ first_sum (entries_of difference.now) (suc n)) }
 {
+    let entries = difference.entries();
     let mut sum: i64 = 0;
-    for entry in difference.entries() {
+    for entry in entries {
         sum += *entry;
         if sum < 0 {
             return false;

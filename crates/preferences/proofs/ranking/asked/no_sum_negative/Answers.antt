@@ -8,32 +8,32 @@ use Rattle.preferences.proofs.ranking.asked.no_sum_negative.Goals as goal
 
 pub overflow_add-sum : goal.overflow_add-sum
 overflow_add-sum c =
-    let entries = c.entries-entry-items.result.now in
-    let few = lent_entries_few c.args.difference.now entries c.entries-entry-items.ensures in
-    let range = lent_range c.args.difference.now entries c.entries-entry-items.ensures c.loop-entry.entry-index in
+    let entries = c.entries-entries.result.now in
+    let few = lent_entries_few c.args.difference.now entries c.entries-entries.ensures in
+    let range = lent_range c.args.difference.now entries c.entries-entries.ensures c.loop-entry.entry-index in
     omega (arith, ints, c.loop-entry.invariant.1)
 
 pub returns-then-sum-lt0 : goal.returns-then-sum-lt0
 returns-then-sum-lt0 c =
     let difference = c.args.difference.now in
-    let entries = c.entries-entry-items.result.now in
+    let entries = c.entries-entries.result.now in
     let at = c.loop-entry.entry-index in
-    let few = lent_entries_few difference entries c.entries-entry-items.ensures in
-    let range = lent_range difference entries c.entries-entry-items.ensures at in
-    let same = ap (λ zs. get_or zs at (pos 0)) c.entries-entry-items.ensures in
-    let within : at < length (entries_of difference) = omega (arith, ap length c.entries-entry-items.ensures) in
+    let few = lent_entries_few difference entries c.entries-entries.ensures in
+    let range = lent_range difference entries c.entries-entries.ensures at in
+    let same = ap (λ zs. get_or zs at (pos 0)) c.entries-entries.ensures in
+    let within : at < length (entries_of difference) = omega (arith, ap length c.entries-entries.ensures) in
     let more = first_sum-suc (entries_of difference) at within in
     Decides-no (λ each. let here = each at within in omega (arith, ints, c.loop-entry.invariant.0, c.loop-entry.invariant.1))
 
 pub loop-entry-preserved : goal.loop-entry-preserved
 loop-entry-preserved c =
     let difference = c.args.difference.now in
-    let entries = c.entries-entry-items.result.now in
+    let entries = c.entries-entries.result.now in
     let at = c.loop-entry.entry-index in
-    let few = lent_entries_few difference entries c.entries-entry-items.ensures in
-    let range = lent_range difference entries c.entries-entry-items.ensures at in
-    let same = ap (λ zs. get_or zs at (pos 0)) c.entries-entry-items.ensures in
-    let within : at < length (entries_of difference) = omega (arith, ap length c.entries-entry-items.ensures) in
+    let few = lent_entries_few difference entries c.entries-entries.ensures in
+    let range = lent_range difference entries c.entries-entries.ensures at in
+    let same = ap (λ zs. get_or zs at (pos 0)) c.entries-entries.ensures in
+    let within : at < length (entries_of difference) = omega (arith, ap length c.entries-entries.ensures) in
     let more = first_sum-suc (entries_of difference) at within in (
       rw add-one (omega (arith, ints, c.loop-entry.invariant.0, c.loop-entry.invariant.1)),
       omega (arith, ints, c.loop-entry.invariant.1),
@@ -41,4 +41,4 @@ loop-entry-preserved c =
     )
 
 pub returns : goal.returns
-returns c = Decides-yes (λ n below. c.loop-entry.invariant.2 n (omega (arith, ap length c.entries-entry-items.ensures)))
+returns c = Decides-yes (λ n below. c.loop-entry.invariant.2 n (omega (arith, ap length c.entries-entries.ensures)))
