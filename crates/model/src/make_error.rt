@@ -14,6 +14,7 @@ pub enum MakeError {
     Memory,
 }
 
+// By hand, as the next one is, since contracts name what `?` makes of an error.
 impl From<Refusal> for MakeError {
     ghost from_gives = { λ refusal r. r ≡ Refused refusal };
 

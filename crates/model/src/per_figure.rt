@@ -13,6 +13,7 @@ pub struct PerFigure<T> {
     ghost stored: { count ≤ length numbers },
 }
 
+// By hand, since no `Clone` is derived for a generic struct with ghost fields.
 impl<T: Copy> Clone for PerFigure<T> {
     fn clone(&self) -> Result<PerFigure<T>, AllocError> {
         Ok(*self)

@@ -21,6 +21,7 @@ impl<P: Preference> FurtherRow<P> {
     ) -> Result<FurtherRow<P>, HandedBack<P, Refusal>>
         ensures { HandsBack (further_grounds (P.meaning below) numbers.now sample.now) below result (Tops (P.meaning below).dims below numbers.now sample.now) }
     {
+        // A `match`, since a closure for `map_err` would take `below`.
         match row_and_sample(&below, numbers, sample) {
             Ok((row, sample)) => Ok(FurtherRow { below, row, sample }),
             Err(refusal) => Err(HandedBack {

@@ -5,7 +5,7 @@ ghost use Rattle.preferences.specs.Rankings.{ranking_meaning, NeverRises, first_
 use crate::ranking::Ranking;
 use model::{Difference, Judgement, Preference, Weight};
 
-// The parts of the sample, as many of them as there are figures.
+// The parts of the sample, as many of them as there are figures. They are lent, so they stand in the program.
 static ONES: [u32; 8] = [1; 8];
 
 impl Preference for Ranking {
