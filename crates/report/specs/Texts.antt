@@ -9,7 +9,7 @@ use Rattle.model.specs.declared.refusal.Refusal.{Refusal}
 -- each item after a space; it says nothing if it says nothing of an item
 abbrev pub spaced_text : {X : Type 0} → (X → Option (List ℕ)) → List X → Option (List ℕ)
 spaced_text text [] = Some []
-spaced_text text (item ∷ items) = Some (codes " ") ++? (text item ++? spaced_text text items)
+spaced_text text (item ∷ items) = Some (codes " ") ++? text item ++? spaced_text text items
 
 -- what a preference said, with the words for what shows nothing
 abbrev pub outcome_text : Result Judgement Refusal → List ℕ → List ℕ
