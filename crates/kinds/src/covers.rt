@@ -1,6 +1,6 @@
-use crate::report::print_numbers;
-use anyhow::anyhow;
+use anyhow::{Context, Result};
 use model::Variant;
+use report::Spaced;
 use variants::{CoverSheet, CoverTerms};
 
 const NARROW: CoverTerms = CoverTerms {
@@ -19,19 +19,17 @@ const WIDE: CoverTerms = CoverTerms {
     exclusions: [true, false, false, false, false, false, false, false],
 };
 
-// Makes three cover sheets, one with a waiting time above its limit, and compares the other two by their order.
-pub(crate) fn compare_covers(rt: &HostRuntime) -> anyhow::Result<()> {
-    let Some(narrow) = make_cover(rt, NARROW)? else {
-        return Err(anyhow!("the first cover sheet was refused"));
-    };
-    let Some(wide) = make_cover(rt, WIDE)? else {
-        return Err(anyhow!("the second cover sheet was refused"));
-    };
-    let late = CoverTerms {
-        waiting_days: 3_651,
-        ..WIDE
-    };
-    let _refused = make_cover(rt, late)?;
+// The waiting time is above its limit.
+const LATE: CoverTerms = CoverTerms {
+    waiting_days: 3_651,
+    ..WIDE
+};
+
+// Makes three cover sheets, one of which is refused, and compares the other two by their order.
+pub(crate) fn compare_covers(rt: &HostRuntime) -> Result<()> {
+    let narrow = make_cover(rt, NARROW)?.context("the first cover sheet was refused")?;
+    let wide = make_cover(rt, WIDE)?.context("the second cover sheet was refused")?;
+    make_cover(rt, LATE)?;
     let forth = word(narrow.at_least_as_good(&wide));
     let back = word(wide.at_least_as_good(&narrow));
     println!(rt; "the first cover sheet is at least as good as the second: {forth}")?;
@@ -44,22 +42,20 @@ fn word(yes: bool) -> &'static str {
 }
 
 // Makes a cover sheet and prints its figures, or why it was refused.
-fn make_cover(rt: &HostRuntime, terms: CoverTerms) -> anyhow::Result<Option<CoverSheet>> {
+fn make_cover(rt: &HostRuntime, terms: CoverTerms) -> Result<Option<CoverSheet>> {
     let sum = terms.sum_covered;
     let days = terms.waiting_days;
-    print!(rt; "a cover sheet for {sum} after {days} days")?;
+    print!(rt; "a cover sheet for {sum} after {days} days: ")?;
     match CoverSheet::new(terms) {
         Ok(sheet) => {
-            print!(rt; ": made, its figures are")?;
-            for index in 0..sheet.count() {
-                print_numbers(rt, &[sheet.figure(index)])?;
-            }
-            println!(rt; "")?;
+            let figures: Vec<u32> = (0..sheet.count())
+                .map(|index| sheet.figure(index))
+                .collect(rt.alloc())?;
+            println!(rt; "made, its figures are{}", Spaced(figures.as_slice()))?;
             Ok(Some(sheet))
         }
         Err(refusal) => {
-            let number = refusal.number();
-            println!(rt; ": refused {number}")?;
+            println!(rt; "refused {refusal}")?;
             Ok(None)
         }
     }
