@@ -1,8 +1,8 @@
-pub mod Asked
 pub mod Found
 pub mod Machine
 pub mod Mixtures
 pub mod Pairs
+pub mod Ranged
 pub mod Sums
 pub mod Tables
 pub mod Weighed

@@ -1,11 +1,11 @@
 -- The rows of a flat list, taken from its front one by one, and what multipliers add, one row more at a time.
-use Rattle.std.proofs.Common.{◌≡◌, ℕ, zero, suc, ◌+◌, ◌-◌, ◌/◌, ◌<◌, ◌≤◌, Bool, ◌&&◌, ◌⊎◌, inl, inr, List, [], ◌∷◌, ◌++◌, map, length, take, drop, ℤ, pos, Decides, sym, refl, ap, ◌∙◌, subst, add-one, arith, get_or-take}
+use Rattle.std.proofs.Common.{◌≡◌, ℕ, zero, suc, ◌+◌, ◌-◌, ◌/◌, ◌<◌, ◌≤◌, Bool, ◌&&◌, ◌⊎◌, inl, inr, List, [], ◌∷◌, ◌++◌, map, length, take, drop, ℤ, pos, ◌+ℤ◌, ◌*ℤ◌, Decides, sym, refl, ap, ◌∙◌, subst, add-one, arith, get_or-take}
 use native.Mathlib.Nat.{div-eq_of_lt, div-eq-sub-div}
 use Rattle.std.proofs.lemmas.List.{length-append, length-drop, take-take, take_at, drop_at}
 use Rattle.std.proofs.lemmas.Bool.Decides.{same_from_decides}
 use Rattle.std.specs.List.{AllByRecursion}
 use Rattle.model.specs.Each.{Decides-le}
-use Rattle.preferences.specs.Constraints.{Constraint, InRowLimit, Keeps, all_keep, lift}
+use Rattle.preferences.specs.Constraints.{Constraint, InRowLimit, Keeps, all_keep, effective, lift}
 use Rattle.preferences.specs.RowList.{row_at_front, rows_at_front, rows_in}
 
 pub rows_in_none : (d : ℕ) (numbers : List ℤ) → length numbers < d + 1 → rows_in d numbers ≡ []
@@ -59,6 +59,10 @@ keep_first weight row rows r decides = ap (λ t. t && all_keep weight rows) (sam
 pub keep_taken : (weight : List ℕ) (d : ℕ) (numbers front back : List ℤ) (row : Constraint) (r : Bool) → numbers ≡ front ++ back → length front ≡ d + 1 → row ≡ row_at_front d front → Decides r (Keeps weight row) → all_keep weight (rows_in d numbers) ≡ (r && all_keep weight (rows_in d back))
 keep_taken weight d numbers front back row r parts long read decides =
     ap (all_keep weight) (row_taken d numbers front back row parts long read) ∙ keep_first weight row (rows_in d back) r decides
+
+-- one row and its multiplier, taken off the front
+pub lift_taken : {X : Type 0} (f : X → Constraint) {xs ys : List X} {ms ns : List ℕ} {x : X} {m : ℕ} (i : ℕ) → xs ≡ x ∷ ys → ms ≡ m ∷ ns → lift (map f xs) ms i ≡ (pos m *ℤ effective (f x) i) +ℤ lift (map f ys) ns i
+lift_taken f {ys} {ms} {x} i rows multipliers = ap (λ zs. lift (map f zs) ms i) rows ∙ ap (λ ns. lift (map f (x ∷ ys)) ns i) multipliers
 
 -- where the rows or the multipliers are at their end
 pub lift_done : {X : Type 0} (f : X → Constraint) (xs : List X) (ms : List ℕ) (i : ℕ) → (length xs ≡ 0) ⊎ (length ms ≡ 0) → lift (map f xs) ms i ≡ pos 0

@@ -15,12 +15,6 @@ overflow_add-sum c =
     let product : c.from.result * c.from-in-loop-part.result ≡ c.in-Some.part.now * c.in-Some.figure.now = cc in
     omega (arith, parts_count weight, weight.parts.most, c.loop-part.invariant)
 
-pub loop-part-preserved : goal.loop-part-preserved
-loop-part-preserved c =
-    let next = score_taken c.in-Some.ensures.steps.0 c.in-Some.ensures.steps.1 in
-    let product : c.from.result * c.from-in-loop-part.result ≡ c.in-Some.part.now * c.in-Some.figure.now = cc in
-    omega (arith, c.loop-part.invariant)
-
 pub returns : goal.returns
 returns c =
     let left = score_done (iter_rest (zip_first c.loop-part.part-iterator)) (iter_rest (zip_second c.loop-part.part-iterator)) (⊎_elim (λ h. inl h.1.0) (λ h. inr h.1.0) c.in-None.ensures.steps) in

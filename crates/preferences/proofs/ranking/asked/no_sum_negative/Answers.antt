@@ -1,17 +1,10 @@
 use Rattle.std.proofs.Common.{◌<◌, length, get_or, pos, ap, add-one, arith, below_more}
 use borrow.Author.Differences.{ints}
 use Rattle.model.specs.Values.{entries_of}
-use Rattle.model.specs.Each.{Decides-yes, Decides-no}
+use Rattle.model.specs.Each.{Decides-no}
 use Rattle.model.specs.Stored.{lent_entries_few, lent_range}
 use Rattle.preferences.proofs.Rankings.{first_sum-suc}
 use Rattle.preferences.proofs.ranking.asked.no_sum_negative.Goals as goal
-
-pub overflow_add-sum : goal.overflow_add-sum
-overflow_add-sum c =
-    let entries = c.entries-entries.result.now in
-    let few = lent_entries_few c.args.difference.now entries c.entries-entries.ensures in
-    let range = lent_range c.args.difference.now entries c.entries-entries.ensures c.loop-entry.entry-index in
-    omega (arith, ints, c.loop-entry.invariant.1)
 
 pub returns-then-sum-lt0 : goal.returns-then-sum-lt0
 returns-then-sum-lt0 c =
@@ -39,6 +32,3 @@ loop-entry-preserved c =
       omega (arith, ints, c.loop-entry.invariant.1),
       below_more _ _ c.loop-entry.invariant.2 (omega (arith, ints, c.loop-entry.invariant.0, c.loop-entry.invariant.1)),
     )
-
-pub returns : goal.returns
-returns c = Decides-yes (λ n below. c.loop-entry.invariant.2 n (omega (arith, ap length c.entries-entries.ensures)))

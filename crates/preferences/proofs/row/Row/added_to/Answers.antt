@@ -5,7 +5,7 @@ use Rattle.std.specs.List.{AllByRecursion}
 use Rattle.model.specs.Limits.{InRange, IsFigureCount}
 use Rattle.model.specs.Values.{entries_of}
 use Rattle.model.proofs.Found.{made_by_place}
-use Rattle.model.proofs.Asked.{difference_or_none}
+use Rattle.model.proofs.Ranged.{difference_or_none}
 use Rattle.model.specs.Stored.{entries_count}
 use Rattle.preferences.specs.Constraints.{effective}
 use Rattle.preferences.specs.FurtherRows.{with_row}

@@ -1,16 +1,12 @@
-use Rattle.std.proofs.Common.{◌≡◌, ◌+◌, ◌*◌, ◌≤◌, length, ℤ, pos, nat_abs, ◌*ℤ◌, ap, subst, inl, inr, ⊎_elim, arith, lit<, le_refl, rules}
+use Rattle.std.proofs.Common.{◌≡◌, ◌+◌, ◌*◌, ◌≤◌, length, ℤ, pos, nat_abs, ◌*ℤ◌, ap, subst, inl, inr, ⊎_elim, arith, lit<, le_refl}
 use borrow.Author.Differences.{ints}
-use Rattle.std.proofs.Math.IntN.{+ℤ_idl}
 use Rattle.std.specs.Iterator.Adapters.{zip_first, zip_second}
 use Rattle.std.specs.List.{AllByRecursion}
 use Rattle.std.specs.Slice.Iter.{iter_rest}
 use Rattle.model.specs.Limits.{InLimit}
-use Rattle.model.specs.Values.{parts_of}
-use Rattle.model.specs.Stored.{parts_limits, parts_count}
 use Rattle.model.proofs.Machine.{Added, added, one_less_left}
 use Rattle.model.proofs.Sums.{weighed_taken, weighed_done}
 use Rattle.preferences.specs.Constraints.{InRowLimit}
-use Rattle.preferences.specs.StoredRow.{constraint_of}
 use Rattle.preferences.proofs.row.Row.weighed.Goals as goal
 
 -- the part and the coefficient of this turn are within their limits
@@ -25,16 +21,6 @@ taken c =
 step : (c : goal.After-from-in-loop-part) (sum : ℤ) → sum ≡ c.loop-part.sum → nat_abs sum ≤ 80000000000 → Added sum c.from.result c.from-in-loop-part.result (nat_abs sum + 1000000 * 10000)
 step c sum is size =
     added sum c.from.result c.from-in-loop-part.result (nat_abs sum) 1000000 10000 (le_refl (nat_abs sum)) (taken c).0 (taken c).1 (lit< tt) (lit< tt) (omega (arith, size))
-
-pub loop-part-init : goal.loop-part-init
-loop-part-init c =
-    let weight = c.args.weight.now in
-    let first : iter_rest (zip_first c.into_iter-part-iterator.result) ≡ parts_of weight = search rules in
-    let second : iter_rest (zip_second c.into_iter-part-iterator.result) ≡ (constraint_of c.args.self.now).coefficients = search rules in
-    rw (first, second) (+ℤ_idl _, omega (arith, parts_count weight, weight.parts.most), parts_limits weight, c.args.self.now.limits)
-
-pub overflow_mul-sum : goal.overflow_mul-sum
-overflow_mul-sum c = (step c _ c.loop-part.sum-is (omega (arith, c.loop-part.invariant.1))).product
 
 pub overflow_add-sum : goal.overflow_add-sum
 overflow_add-sum c = (step c _ c.loop-part.sum-is (omega (arith, c.loop-part.invariant.1))).fits
