@@ -171,26 +171,24 @@ fn further_rows_are_made_over_what_admits_their_sample(rt: HostRuntime) -> Resul
         adding(FurtherRow::new(ranking(2)?, &[0, 0, 0], &[1, 2])),
         Some(6)
     );
-    match FurtherRow::new(ranking(2)?, &[-10, 0, -6], &[1, 1]) {
-        Ok(_) => Err(Fail::new("the sample does not keep the row")),
-        Err(back) => {
-            assert_eq!(rt;
-                adding(FurtherRow::new(back.value, &[-10, 0, -6], &[3, 2])),
-                None
-            );
-            Ok(())
-        },
-    }
+    let Err(back) = FurtherRow::new(ranking(2)?, &[-10, 0, -6], &[1, 1]) else {
+        return Err(Fail::new("the sample does not keep the row"));
+    };
+    assert_eq!(rt;
+        adding(FurtherRow::new(back.value, &[-10, 0, -6], &[3, 2])),
+        None
+    );
+    Ok(())
 }
 
 #[test]
 fn rows_stand_on_one_another(rt: HostRuntime) -> Result<(), Fail> {
-    let Ok(lower) = FurtherRow::new(barn(&rt)?, &[-10, 0, -6], &[3, 2]) else {
-        return Err(Fail::new("the lower row was not made"));
-    };
-    let Ok(stack) = FurtherRow::new(lower, &[-10_000, 10_000, 0], &[3, 2]) else {
-        return Err(Fail::new("the upper row was not made"));
-    };
+    let lower = FurtherRow::new(barn(&rt)?, &[-10, 0, -6], &[3, 2]).map_err(|_| Fail::new(
+        "the lower row was not made",
+    ))?;
+    let stack = FurtherRow::new(lower, &[-10_000, 10_000, 0], &[3, 2]).map_err(|_| Fail::new(
+        "the upper row was not made",
+    ))?;
     assert_eq!(rt; stack.multipliers(), 3);
     assert_eq!(rt; stack.ask_weight(&[3, 2]).unwrap_or(false), true);
     assert_eq!(rt; stack.ask_weight(&[1, 1]).unwrap_or(true), false);
