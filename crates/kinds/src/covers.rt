@@ -37,6 +37,7 @@ pub(crate) fn compare_covers(rt: &HostRuntime) -> Result<()> {
     Ok(())
 }
 
+// A `bool` prints true or false itself.
 fn word(yes: bool) -> &'static str {
     if yes { "yes" } else { "no" }
 }

@@ -1,12 +1,10 @@
 -- The making of a preference of rows: what it means, and the grounds on which it is refused.
-use Rattle.std.specs.Prelude.{◌≡◌, ℕ, cond, List, length, ℤ, Option, MatchOption}
+use Rattle.std.specs.Prelude.{ℕ, cond, List, length, ℤ}
 use Rattle.model.specs.Limits.{IsFigureCount, Proper}
-use Rattle.model.specs.Meaning.{Meaning, SampleOf}
+use Rattle.model.specs.Meaning.{Meaning}
 use Rattle.model.specs.Refusals.{line, end}
 use Rattle.model.specs.declared.judgement.Judgement.{Judgement}
-use Rattle.model.specs.Values.{parts_of}
 use Rattle.model.specs.declared.refusal.Refusal.{Refusal}
-use Rattle.model.specs.declared.weight.Weight.{Weight}
 use Rattle.preferences.specs.Constraints.{Constraint, Admissible, admits, shows}
 use Rattle.preferences.specs.RowList.{IsRowList, rows_in}
 
@@ -26,10 +24,6 @@ rows_meaning d rows sample =
 pub record GoodSample (d : ℕ) (numbers : List ℤ) (sample : List ℕ) : Type 0 where
   pub proper : Proper d sample
   pub admissible : Admissible d (rows_in d numbers) sample
-
--- whether a weight may be the sample of m, answered by the weight itself
-abbrev pub Sampled : Meaning → List ℕ → Option Weight → Type 0
-Sampled m sample answer = MatchOption answer (SampleOf m sample → ⊥) (λ weight. (parts_of weight ≡ sample) × SampleOf m sample)
 
 -- rows are refused where d is not 1 to 8, the numbers are no list of rows, or the sample is no proper weight or not admissible
 abbrev pub rows_grounds : ℕ → List ℤ → List ℕ → Refusal → Type 0

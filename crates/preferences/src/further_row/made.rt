@@ -1,9 +1,9 @@
-ghost use Rattle.std.specs.Prelude.{◌≡◌};
+ghost use Rattle.std.specs.Prelude.{◌≡◌, MatchOption};
 ghost use Rattle.model.specs.Limits.{IsFigureCount};
+ghost use Rattle.model.specs.Meaning.{SampleOf};
 ghost use Rattle.model.specs.Refusals.{Checked, HandsBack};
 ghost use Rattle.model.specs.Values.{parts_of};
 ghost use Rattle.preferences.specs.FurtherRows.{further_meaning, further_grounds};
-ghost use Rattle.preferences.specs.Making.{Sampled};
 ghost use Rattle.preferences.specs.RowList.{row_at_front};
 ghost use Rattle.preferences.specs.Stored.{Tops};
 ghost use Rattle.preferences.specs.StoredRow.{constraint_of};
@@ -57,8 +57,7 @@ fn row_and_sample<P: Preference>(
 
 // The sample as a weight, where it is proper, admissible below, and keeps the row.
 fn admissible_sample<P: Preference>(below: &P, row: &Row, sample: &[u32]) -> Option<Weight>
-    requires { IsFigureCount (P.meaning below.now).dims }
-    ensures { Sampled (further_meaning (P.meaning below.now) (constraint_of row.now) sample.now) sample.now result }
+    ensures { MatchOption result (IsFigureCount (P.meaning below.now).dims → SampleOf (further_meaning (P.meaning below.now) (constraint_of row.now) sample.now) sample.now → ⊥) (λ weight. (parts_of weight ≡ sample.now) × SampleOf (further_meaning (P.meaning below.now) (constraint_of row.now) sample.now) sample.now) }
 {
     let weight = Weight::of_width(below.dims(), sample)?;
     (below.admits(&weight) && row.keeps(&weight)).then_some(weight)
