@@ -38,6 +38,7 @@ fn cover_sheets_keep_their_limits(rt: HostRuntime) -> Result<(), Fail> {
     }
     let sheet = cover(terms(800, 500, 250_000, 30, LAST_TWO))?;
     assert_eq!(rt; sheet.count(), 5);
+    // With the index, since a figure is read by its place.
     for (index, figure) in [800, 500, 750_000, 30, 2, 0].iter().enumerate() {
         assert_eq!(rt; sheet.figure(index), *figure);
     }
