@@ -7,6 +7,11 @@ use Rattle.model.specs.Each.{Decides-no}
 use Rattle.model.specs.Limits.{InLimit}
 use Rattle.model.specs.Weighing.{score, total, weighed}
 
+-- two lists that are gone through together are done where one is at its end
+pub at_an_end : {I J : Type 0} {P : I → Type 0} {Q : J → Type 0} {m n : ℕ} → ((x : I) × ((m ≡ 0) × P x)) ⊎ ((y : J) × ((n ≡ 0) × Q y)) → (m ≡ 0) ⊎ (n ≡ 0)
+at_an_end (inl h) = inl h.1.0
+at_an_end (inr h) = inr h.1.0
+
 -- one part and its figure, taken off the front
 pub score_taken : {w v xs ys : List ℕ} {p x : ℕ} → w ≡ p ∷ v → xs ≡ x ∷ ys → score w xs ≡ p * x + score v ys
 score_taken {v} {xs} {p} parts figures = ap (λ w. score w xs) parts ∙ ap (score (p ∷ v)) figures

@@ -23,7 +23,7 @@ pub use figures::Figures;
 pub use handed_back::HandedBack;
 pub use judgement::Judgement;
 pub use list_answer::ListAnswer;
-pub use lists::{all_within, padded};
+pub use lists::{all_within, is_figure_count, padded};
 pub use magnitude::Magnitude;
 pub use make_error::MakeError;
 pub use per_figure::PerFigure;

@@ -12,6 +12,7 @@ pub enum ListAnswer {
 }
 
 impl ListAnswer {
+    // As text that lives as long as the program; `Display` writes it.
     pub fn word(self) -> &'static str
         ensures { result.now ≡ list_word self }
     {

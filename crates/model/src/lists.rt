@@ -1,5 +1,6 @@
 ghost use Rattle.std.specs.Prelude.{◌≡◌, ◌-◌, ◌≤◌, ◌++◌, length, take, replicate, Decides};
 ghost use Rattle.std.specs.List.{AllByRecursion};
+ghost use Rattle.model.specs.Limits.{IsFigureCount};
 
 use crate::Magnitude;
 use std::array;
@@ -9,6 +10,13 @@ pub(crate) const LIMIT: u64 = 1_000_000;
 
 // The largest size of a difference's entry.
 pub(crate) const RANGE: u64 = 1_000_000_000_000;
+
+// Whether so many figures can be compared: 1 to 8.
+pub fn is_figure_count(count: usize) -> bool
+    ensures { Decides result (IsFigureCount count) }
+{
+    (1..=8).contains(&count)
+}
 
 // Whether every number is at most so large in size.
 pub fn all_within<T: Magnitude>(numbers: &[T], most: u64) -> bool

@@ -1,4 +1,4 @@
-ghost use Rattle.std.specs.Prelude.{◌≤◌, length};
+ghost use Rattle.std.specs.Prelude.{⊤, ◌≡◌, ◌≤◌, length};
 
 use std::alloc::AllocError;
 
@@ -15,6 +15,10 @@ pub struct PerFigure<T> {
 
 // By hand, since no `Clone` is derived for a generic struct with ghost fields.
 impl<T: Copy> Clone for PerFigure<T> {
+    ghost is_clone = { λ held copy. copy ≡ held };
+
+    ghost is_infallible = { λ _. ⊤ };
+
     fn clone(&self) -> Result<PerFigure<T>, AllocError> {
         Ok(*self)
     }

@@ -4,7 +4,7 @@ ghost use Rattle.model.specs.Questions.{weight_question, difference_question, Ju
 ghost use Rattle.model.specs.Refusals.{Checked};
 ghost use Rattle.model.specs.Values.{parts_of, entries_of};
 
-use crate::lists::{LIMIT, all_within};
+use crate::lists::{LIMIT, all_within, is_figure_count};
 use crate::{Difference, Judgement, Refusal, Weight};
 
 // A kind of preference: which weighings of the figures are permitted, and which certificates it accepts. No question changes it.
@@ -45,7 +45,7 @@ pub trait Preference {
         ensures { Checked (difference_question (meaning self.now) difference.now multipliers.now) result (Judges (meaning self.now) difference.now multipliers.now) }
     {
         let dims = self.dims();
-        if !(1..=8).contains(&dims) || difference.len() != dims {
+        if !is_figure_count(dims) || difference.len() != dims {
             return Err(Refusal::Width);
         }
         if multipliers.len() != self.multipliers() {

@@ -2,7 +2,7 @@
 use Rattle.std.specs.Prelude.{◌≡◌, ℕ, Bool, true, false, ◌&&◌, Decides, ◌==◌, refl}
 use Rattle.std.proofs.Common.{sym, ap, ◌∙◌}
 use Rattle.std.proofs.lemmas.Bool.{cond-true, cond-false, eq-eqb}
-use Rattle.std.proofs.lemmas.Bool.Decides.{same_from_decides}
+use Rattle.std.proofs.lemmas.Bool.Decides.{same_from_decides, Decides-like}
 use Rattle.model.specs.declared.judgement.Judgement.{Judgement}
 use Rattle.model.specs.Each.{Decides-no}
 use Rattle.model.specs.Judging.{judgement}
@@ -13,6 +13,10 @@ judgement_shown t decides p = sym (cond-true t _ _ (decides.1 p))
 
 pub judgement_not_shown : {P : Type 0} (t : Bool) → Decides t P → (P → ⊥) → Judgement.NotShown ≡ judgement t
 judgement_not_shown t decides n = sym (cond-false t _ _ (same_from_decides t false decides (Decides-no n)))
+
+-- the judgement of two tests, where the rule of the one is the rule of the other
+pub judgement_same : {P Q : Type 0} (r t : Bool) → Decides r P → Decides t Q → (P → Q) → (Q → P) → judgement r ≡ judgement t
+judgement_same r t says decides there back = ap judgement (same_from_decides r t says (Decides-like t back there decides))
 
 -- what is shown keeps the rule
 pub shown_holds : (t : Bool) → judgement t ≡ Judgement.Shown → t ≡ true

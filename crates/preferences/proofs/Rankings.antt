@@ -1,5 +1,5 @@
 -- Why sums of first entries prove something of every weight whose parts never rise, and the laws of a ranking.
-use Rattle.std.specs.Prelude.{◌≡◌, ℕ, zero, suc, ◌+◌, ◌-◌, ◌<◌, ◌≤◌, List, [], ◌∷◌, length, replicate, ℤ, pos, ◌+ℤ◌, ◌*ℤ◌, ◌≤ℤ◌, Bool, true, false, nat_le, Decides, slice_index, slice_index_or, refl}
+use Rattle.std.specs.Prelude.{◌≡◌, ℕ, zero, suc, ◌+◌, ◌-◌, ◌<◌, ◌≤◌, List, [], ◌∷◌, length, replicate, ℤ, pos, ◌+ℤ◌, ◌*ℤ◌, ◌≤ℤ◌, Bool, true, false, nat_le, Decides, slice_index, slice_index_or, unsigned_abs, refl}
 use Rattle.std.proofs.Common.{sym, ap, subst, ◌∙◌, add-one, arith}
 use Rattle.std.proofs.lemmas.Int.{ints}
 use Rattle.std.proofs.Math.IntN.{+ℤ_idl, +ℤ_idr, +ℤ_assoc, *ℤ-zero}
@@ -12,6 +12,9 @@ use Rattle.model.specs.Limits.{InLimit, Ranged}
 use Rattle.model.specs.Meaning.{SampleOf, Lawful, Safe}
 use Rattle.model.specs.Weighing.{total, weighed}
 use Rattle.model.specs.declared.judgement.Judgement.{Judgement}
+use Rattle.model.specs.Stored.{lent_entries_few, lent_range}
+use Rattle.model.specs.Values.{entries_of}
+use Rattle.model.specs.declared.difference.Difference.{Difference}
 use Rattle.model.specs.Each.{Decides-leb, Decides-yes, Decides-no}
 use Rattle.model.proofs.Weighed.{times_add, add_times, times_nonneg}
 use Rattle.preferences.specs.Rankings.{NeverRises, Ranked, no_step_rises, never_rises, ranking_admits, first_sum, ranking_shows, ranking_meaning}
@@ -55,6 +58,12 @@ first_sum-suc [] i below = absurd (omega arith)
 first_sum-suc (entry ∷ entries) zero below = +ℤ_idr entry ∙ sym (+ℤ_idl entry)
 first_sum-suc (entry ∷ entries) (suc i) below =
     ap (λ z. entry +ℤ z) (first_sum-suc entries i (omega arith)) ∙ sym (+ℤ_assoc entry (first_sum entries i) (slice_index_or entries i (pos 0)))
+
+-- a turn of the sums of a difference: room for its entry, and what it adds
+pub next_sum : (difference : Difference) (entries : List ℤ) (at : ℕ) → entries ≡ entries_of difference → at < length entries → (length entries ≤ 8) × (unsigned_abs (slice_index_or entries at (pos 0)) ≤ 1000000000000) × (first_sum (entries_of difference) (suc at) ≡ first_sum (entries_of difference) at +ℤ slice_index_or entries at (pos 0))
+next_sum difference entries at same within =
+    let more = first_sum-suc (entries_of difference) at (omega (arith, ap length same)) in
+    (lent_entries_few difference entries same, lent_range difference entries same at, more ∙ ap (λ zs. first_sum (entries_of difference) at +ℤ slice_index_or zs at (pos 0)) (sym same))
 
 pub Decides-never_rises : (weight : List ℕ) → Decides (never_rises weight) (NeverRises weight)
 Decides-never_rises weight =

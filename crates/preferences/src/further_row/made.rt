@@ -10,7 +10,7 @@ ghost use Rattle.preferences.specs.StoredRow.{constraint_of};
 
 use crate::further_row::FurtherRow;
 use crate::row::{ROW_LIMIT, Row};
-use model::{HandedBack, Preference, Refusal, Weight, all_within};
+use model::{HandedBack, Preference, Refusal, Weight, all_within, is_figure_count};
 
 impl<P: Preference> FurtherRow<P> {
     // One row over `below`, given as its coefficients and then its bound. A refusal hands `below` back.
@@ -41,7 +41,7 @@ fn row_and_sample<P: Preference>(
     ensures { Checked (further_grounds (P.meaning below.now) numbers.now sample.now) result (λ made. (constraint_of made.0 ≡ row_at_front (P.meaning below.now).dims numbers.now) × (parts_of made.1 ≡ sample.now)) }
 {
     let dims = below.dims();
-    if !(1..=8).contains(&dims) {
+    if !is_figure_count(dims) {
         return Err(Refusal::FigureCount);
     }
     if numbers.len() != dims + 1 || below.multipliers() > 63 {

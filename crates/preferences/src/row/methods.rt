@@ -61,6 +61,7 @@ impl Row {
         ensures value { result ≡ (constraint_of self.now).bound *ℤ pos (total (parts_of weight.now)) }
         ensures size { unsigned_abs result ≤ 80000000000 }
     {
+        // `as` is proved to lose nothing; `try_from` would have a case that never comes.
         let total = weight.total() as i64;
         i64::from(self.bound) * total
     }
@@ -69,6 +70,7 @@ impl Row {
     pub(crate) fn added_to(&self, difference: &Difference, multiplier: u32) -> Option<Difference>
         ensures { MatchOption result (AllByRecursion InRange (with_row (constraint_of self.now) multiplier (entries_of difference.now)) → ⊥) (λ sum. entries_of sum ≡ with_row (constraint_of self.now) multiplier (entries_of difference.now)) }
     {
+        // An array of eight, so that no memory is needed.
         let sums: [i64; 8] = array::from_fn(|index| self.sum(difference, multiplier, index));
         Difference::new(&sums[..difference.entries().len()]).ok()
     }

@@ -4,7 +4,7 @@ ghost use Rattle.preferences.specs.Stored.{Holds};
 
 use crate::rows::Rows;
 use crate::rows::flat::RowList;
-use model::{MakeError, Refusal};
+use model::{MakeError, Refusal, is_figure_count};
 use std::alloc::Global;
 
 impl Rows {
@@ -17,7 +17,7 @@ impl Rows {
     ) -> Result<Rows, MakeError>
         ensures { Made (rows_grounds dims numbers.now sample.now) result (Holds dims numbers.now sample.now) }
     {
-        if !(1..=8).contains(&dims) {
+        if !is_figure_count(dims) {
             return Err(MakeError::Refused(Refusal::FigureCount));
         }
         let list = RowList::new(dims, numbers).ok_or(Refusal::Rows)?;

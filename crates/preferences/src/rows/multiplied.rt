@@ -4,7 +4,7 @@ use crate::row::Row;
 
 mod added;
 
-// At most 16 rows, each with a multiplier.
+// At most 16 rows, each with a multiplier; the multipliers are lent apart from the rows.
 #[derive(Clone, Copy)]
 pub(super) struct Multiplied<'a> {
     pub(super) rows: &'a [Row],

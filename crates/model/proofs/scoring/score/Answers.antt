@@ -1,9 +1,9 @@
-use Rattle.std.proofs.Common.{◌≡◌, ◌*◌, arith, inl, inr, ⊎_elim}
+use Rattle.std.proofs.Common.{◌≡◌, ◌*◌, arith}
 use Rattle.std.specs.Iterator.Adapters.{zip_first, zip_second}
 use Rattle.std.specs.Slice.Iter.{iter_rest}
 use Rattle.model.specs.Values.{figures_of, parts_of}
 use Rattle.model.specs.Stored.{parts_limits, parts_count, figures_limits}
-use Rattle.model.proofs.Sums.{score_taken, score_done, score_limit}
+use Rattle.model.proofs.Sums.{at_an_end, score_taken, score_done, score_limit}
 use Rattle.model.proofs.scoring.score.Goals as goal
 
 pub overflow_add-sum : goal.overflow_add-sum
@@ -17,5 +17,5 @@ overflow_add-sum c =
 
 pub returns : goal.returns
 returns c =
-    let left = score_done (iter_rest (zip_first c.loop-part.part-iterator)) (iter_rest (zip_second c.loop-part.part-iterator)) (⊎_elim (λ h. inl h.1.0) (λ h. inr h.1.0) c.in-None.ensures.steps) in
+    let left = score_done (iter_rest (zip_first c.loop-part.part-iterator)) (iter_rest (zip_second c.loop-part.part-iterator)) (at_an_end c.in-None.ensures.steps) in
     omega (arith, c.loop-part.invariant)

@@ -8,26 +8,25 @@ ghost use Rattle.preferences.specs.StoredRow.{constraint_of};
 
 use crate::row::{ROW_LIMIT, Row};
 use crate::rows::flat::RowList;
-use model::{Weight, all_within};
+use model::{Weight, all_within, is_figure_count};
 use std::alloc::{AllocError, Global};
 
 impl RowList<'_> {
     // The list of these numbers, none where they are no list of rows.
     pub(crate) fn new(dims: usize, numbers: &[i32]) -> Option<RowList<'_>>
-        requires { IsFigureCount dims }
-        ensures { MatchOption result (IsRowList dims numbers.now → ⊥) (λ list. (list.dims ≡ dims) × (list.numbers.now ≡ numbers.now)) }
+        ensures { MatchOption result (IsFigureCount dims → IsRowList dims numbers.now → ⊥) (λ list. (list.dims ≡ dims) × (list.numbers.now ≡ numbers.now)) }
     {
-        let width = dims + 1;
-        if numbers.len() % width != 0 || numbers.len() / width > 16 {
+        if !is_figure_count(dims) || !all_within(numbers, ROW_LIMIT) {
             return None;
         }
-        if !all_within(numbers, ROW_LIMIT) {
+        let width = dims + 1;
+        if numbers.len() % width != 0 || numbers.len() / width > 16 {
             return None;
         }
         Some(RowList { dims, numbers })
     }
 
-    // Whether the weight keeps every row.
+    // Whether the weight keeps every row. A `for`, as below, since `Row::read` asks of a chunk what no closure is told.
     fn keeps(&self, weight: &Weight) -> bool
         ensures { result ≡ all_keep (parts_of weight.now) (rows_in self.now.dims self.now.numbers.now) }
     {

@@ -17,6 +17,6 @@ returns c =
     let same : sum_by (λ part. part) c.parts.result.now ≡ total (parts_of c.args.self.now) = sym (is_sum_by total (λ part. part) refl (λ _ _. refl) c.parts.result.now) ∙ ap total c.parts.ensures in
     let value : c.sum.result ≡ total (parts_of c.args.self.now) = search (rules, same) in
     record {
-      value = value;
+      value = omega (arith, value);
       bound = omega (arith, total_limit (parts_of c.args.self.now) (parts_limits c.args.self.now), parts_count c.args.self.now, c.args.self.now.parts.most);
     }

@@ -1,11 +1,11 @@
-use Rattle.std.proofs.Common.{◌≡◌, ◌+◌, ◌*◌, ◌≤◌, length, ℤ, pos, nat_abs, ◌*ℤ◌, ap, subst, inl, inr, ⊎_elim, arith, lit<, le_refl}
+use Rattle.std.proofs.Common.{◌≡◌, ◌+◌, ◌*◌, ◌≤◌, length, ℤ, pos, nat_abs, ◌*ℤ◌, ap, subst, arith, lit<, le_refl}
 use borrow.Author.Differences.{ints}
 use Rattle.std.specs.Iterator.Adapters.{zip_first, zip_second}
 use Rattle.std.specs.List.{AllByRecursion}
 use Rattle.std.specs.Slice.Iter.{iter_rest}
 use Rattle.model.specs.Limits.{InLimit}
 use Rattle.model.proofs.Machine.{Added, added, one_less_left}
-use Rattle.model.proofs.Sums.{weighed_taken, weighed_done}
+use Rattle.model.proofs.Sums.{at_an_end, weighed_taken, weighed_done}
 use Rattle.preferences.specs.Constraints.{InRowLimit}
 use Rattle.preferences.proofs.row.Row.weighed.Goals as goal
 
@@ -42,5 +42,5 @@ loop-part-preserved c =
 
 pub returns : goal.returns
 returns c =
-    let none = weighed_done (iter_rest (zip_first c.loop-part.part-iterator)) (iter_rest (zip_second c.loop-part.part-iterator)) (⊎_elim (λ h. inl h.1.0) (λ h. inr h.1.0) c.in-None.ensures.steps) in
+    let none = weighed_done (iter_rest (zip_first c.loop-part.part-iterator)) (iter_rest (zip_second c.loop-part.part-iterator)) (at_an_end c.in-None.ensures.steps) in
     record { value = omega (arith, ints, c.loop-part.invariant.0); size = omega (arith, c.loop-part.invariant.1) }

@@ -1,7 +1,8 @@
-use Rattle.std.proofs.Common.{◌≡◌, ◌+ℤ◌, length, ap, inl, inr, ⊎_elim, arith, w64, to_z, of_z}
+use Rattle.std.proofs.Common.{◌≡◌, ◌+ℤ◌, length, ap, arith, w64, to_z, of_z}
 use borrow.Author.Differences.{ints}
 use Rattle.std.specs.Iterator.Adapters.{zip_first, zip_second}
 use Rattle.std.specs.Slice.Iter.{iter_rest}
+use Rattle.model.proofs.Sums.{at_an_end}
 use Rattle.model.proofs.Machine.{one_less_left}
 use Rattle.preferences.specs.StoredRow.{constraint_of}
 use Rattle.preferences.proofs.Lists.{lift_taken, lift_done}
@@ -19,5 +20,5 @@ loop-row-preserved c =
 
 pub returns-clause-value : goal.returns-clause-value
 returns-clause-value c =
-    let none = lift_done constraint_of (iter_rest (zip_first c.loop-row.row-iterator)) (iter_rest (zip_second c.loop-row.row-iterator)) c.args.index (⊎_elim (λ h. inl h.1.0) (λ h. inr h.1.0) c.in-None.ensures.steps) in
+    let none = lift_done constraint_of (iter_rest (zip_first c.loop-row.row-iterator)) (iter_rest (zip_second c.loop-row.row-iterator)) c.args.index (at_an_end c.in-None.ensures.steps) in
     omega (arith, ints, c.loop-row.invariant.0)
