@@ -1,8 +1,8 @@
-use Rattle.std.proofs.Common.{◌≡◌, ◌*◌, ◌≤◌, pos, ◌*ℤ◌, nat_abs, sym, ap, ◌∙◌, subst, arith, lit<, w64, SFits, to_z, of_z}
+use Rattle.std.proofs.Common.{◌≡◌, ◌*◌, ◌≤◌, pos, ◌*ℤ◌, nat_abs, ap, ◌∙◌, arith, lit<, w64, to_z, of_z}
 use borrow.Author.Differences.{ints}
 use Rattle.model.specs.Values.{parts_of}
 use Rattle.model.specs.Weighing.{total}
-use Rattle.model.proofs.Machine.{fits, same_back, product_size}
+use Rattle.model.proofs.Machine.{same_back, product_size}
 use Rattle.preferences.proofs.row.Row.allowed.Goals as goal
 
 -- the bound times the total, as the machine has it
@@ -15,9 +15,6 @@ product c =
 
 size : (c : goal.After-from) → nat_abs (c.args.self.now.bound *ℤ pos (total (parts_of c.args.weight.now))) ≤ 10000 * 8000000
 size c = product_size c.args.self.now.bound _ 10000 8000000 c.args.self.now.bounded (omega (arith, c.total-total.ensures.value))
-
-pub overflow_mul-result : goal.overflow_mul-result
-overflow_mul-result c = subst (SFits w64) (sym (product c)) (fits _ (10000 * 8000000) (size c) (lit< tt))
 
 pub returns : goal.returns
 returns c =
