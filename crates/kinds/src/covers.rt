@@ -42,7 +42,7 @@ fn word(yes: bool) -> &'static str {
     if yes { "yes" } else { "no" }
 }
 
-// Makes a cover sheet and prints its figures, or why it was refused.
+// Makes a cover sheet and prints its figures, or why it was refused; the walkthrough prints other things of its sheets.
 fn make_cover(rt: &HostRuntime, terms: CoverTerms) -> Result<Option<CoverSheet>> {
     let sum = terms.sum_covered;
     let days = terms.waiting_days;

@@ -4,7 +4,7 @@ ghost use Rattle.model.specs.Weighing.{score as score_of};
 
 use crate::{Figures, Weight};
 
-// The score of the figures under the weight; lower is better.
+// The score of the figures under the weight; lower is better. In natural numbers, where a row weighs in signed ones.
 pub fn score(weight: &Weight, figures: &Figures) -> u64
     ensures { result ≡ score_of (parts_of weight.now) (figures_of figures.now) }
 {

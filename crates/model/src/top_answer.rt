@@ -3,7 +3,7 @@ ghost use Rattle.model.specs.Answers.{top_word};
 
 use std::fmt;
 
-// Whether some admissible weight makes the variant the single best.
+// Whether some admissible weight makes the variant the single best. Its words are its own, so it is no `ListAnswer`.
 #[derive(Clone, Copy, PartialEq, Eq, Debug)]
 pub enum TopAnswer {
     First,

@@ -3,7 +3,7 @@ ghost use Rattle.std.proofs.Common.{rules};
 
 use model::Variant;
 
-// A variant of one of two kinds, so that one list can hold both.
+// A variant of one of two kinds, so that one list can hold both; neither is a failure or an absence.
 #[derive(Clone, Copy)]
 pub enum EitherVariant<A, B> {
     First(A),

@@ -8,7 +8,7 @@ ghost use Rattle.model.specs.Orders.{no_greater_holds};
 
 use model::{Figures, Refusal, Variant};
 
-// A plain sheet: 1 to 8 figures, and nothing else.
+// A plain sheet: 1 to 8 figures, and nothing else. A kind of sheet, which hands on the order of its figures.
 #[derive(Clone, Copy)]
 pub struct PlainSheet {
     figures: Figures,

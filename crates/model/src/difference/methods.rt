@@ -7,6 +7,7 @@ use crate::difference::Difference;
 use crate::lists::{RANGE, all_within};
 use crate::{PerFigure, Refusal};
 
+// As figures and weights are made, each with grounds of its own.
 impl Difference {
     // The difference with these entries; refused where there are not 1 to 8, or one is beyond the range.
     pub fn new(entries: &[i64]) -> Result<Difference, Refusal>

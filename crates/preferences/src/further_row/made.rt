@@ -55,7 +55,7 @@ fn row_and_sample<P: Preference>(
     Ok((row, sample))
 }
 
-// The sample as a weight, where it is proper, admissible below, and keeps the row.
+// The sample as a weight, where it is proper, admissible below, and keeps the row. Rows ask theirs of a list.
 fn admissible_sample<P: Preference>(below: &P, row: &Row, sample: &[u32]) -> Option<Weight>
     ensures { MatchOption result (IsFigureCount (P.meaning below.now).dims → SampleOf (further_meaning (P.meaning below.now) (constraint_of row.now) sample.now) sample.now → ⊥) (λ weight. (parts_of weight ≡ sample.now) × SampleOf (further_meaning (P.meaning below.now) (constraint_of row.now) sample.now) sample.now) }
 {

@@ -29,6 +29,7 @@ impl Preference for Ranking {
         weight.parts().len() == self.dims && never_rises(weight.parts())
     }
 
+    // As rows judge, but with no multipliers and by another test.
     fn judge(&self, difference: &Difference, multipliers: &[u32]) -> Judgement {
         if difference.entries().len() != self.dims || !multipliers.is_empty() {
             return Judgement::NotShown;

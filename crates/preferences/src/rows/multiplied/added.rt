@@ -19,7 +19,7 @@ impl Multiplied<'_> {
         sum
     }
 
-    // The difference and what the multipliers add, at a figure.
+    // The difference and what the multipliers add, at a figure; `Row::sum` adds what one row does.
     fn sum(&self, difference: &Difference, index: usize) -> i64
         ensures { result ≡ slice_index_or (entries_of difference.now) index (pos 0) +ℤ lift_of (map constraint_of self.now.rows.now) self.now.multipliers.now index }
     {
