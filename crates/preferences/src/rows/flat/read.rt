@@ -16,11 +16,15 @@ impl RowList<'_> {
     pub(crate) fn new(dims: usize, numbers: &[i32]) -> Option<RowList<'_>>
         ensures { MatchOption result (IsFigureCount dims → IsRowList dims numbers.now → ⊥) (λ list. (list.dims ≡ dims) × (list.numbers.now ≡ numbers.now)) }
     {
-        if !is_figure_count(dims) || !all_within(numbers, ROW_LIMIT) {
+        if !is_figure_count(dims) {
             return None;
         }
+        // The length first, so that a list that is too long is refused unread.
         let width = dims + 1;
-        if numbers.len() % width != 0 || numbers.len() / width > 16 {
+        if numbers.len() % width != 0
+            || numbers.len() / width > 16
+            || !all_within(numbers, ROW_LIMIT)
+        {
             return None;
         }
         Some(RowList { dims, numbers })
