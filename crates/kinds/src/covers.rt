@@ -1,6 +1,7 @@
 use anyhow::{Context, Result};
 use model::Variant;
 use report::Spaced;
+use std::array;
 use variants::{CoverSheet, CoverTerms};
 
 const NARROW: CoverTerms = CoverTerms {
@@ -49,10 +50,12 @@ fn make_cover(rt: &HostRuntime, terms: CoverTerms) -> Result<Option<CoverSheet>>
     print!(rt; "a cover sheet for {sum} after {days} days: ")?;
     match CoverSheet::new(terms) {
         Ok(sheet) => {
-            let figures: Vec<u32> = (0..sheet.count())
-                .map(|index| sheet.figure(index))
-                .collect(rt.alloc())?;
-            println!(rt; "made, its figures are{}", Spaced(figures.as_slice()))?;
+            // An array, so that printing needs no memory.
+            let figures: [u32; 8] = array::from_fn(|index| sheet.figure(index));
+            println!(rt;
+                "made, its figures are{}",
+                Spaced(&figures[..sheet.count()])
+            )?;
             Ok(Some(sheet))
         }
         Err(refusal) => {

@@ -75,9 +75,9 @@ fn main(rt: HostRuntime) -> Result<()> {
 }
 
 fn run(rt: &HostRuntime) -> Result<()> {
-    let preference = Rows::new(rt.alloc(), 2, &[-1, 1, 0], &[1, 1]).context(
-        "the preference was not made",
-    )?;
+    let preference = Rows::new(rt.alloc(), 2, &[-1, 1, 0], &[1, 1])
+        .ok()
+        .context("the preference was not made")?;
     println!(rt;
         "a preference over premium and own share: row -1 1 with bound 0, sample 1 1, so premium counts at least as much"
     )?;
