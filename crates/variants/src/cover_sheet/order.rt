@@ -20,7 +20,14 @@ impl Variant for CoverSheet {
     }
 
     fn figure(&self, index: usize) -> u32 {
-        self.figures().get(index).copied().unwrap_or(0)
+        match index {
+            0 => self.terms.premium,
+            1 => self.terms.own_share,
+            2 => LIMIT - self.terms.sum_covered,
+            3 => self.terms.waiting_days,
+            4 => count_set(&self.terms.exclusions),
+            _ => 0,
+        }
     }
 
     fn at_least_as_good(&self, other: &CoverSheet) -> bool {
@@ -34,26 +41,11 @@ impl Variant for CoverSheet {
     }
 }
 
-impl CoverSheet {
-    fn figures(&self) -> [u32; 5]
-        ensures { result ≡ cover_figures self.now.terms }
-    {
-        [
-            self.terms.premium,
-            self.terms.own_share,
-            LIMIT - self.terms.sum_covered,
-            self.terms.waiting_days,
-            count_set(&self.terms.exclusions),
-        ]
-    }
-}
-
 // How many marks are set.
 fn count_set(marks: &[bool; 8]) -> u32
     ensures { result ≡ marks_set marks.now }
 {
-    // `as` is proved to lose nothing; `try_from` would have a case that never comes.
-    marks.iter().filter(|mark| **mark).count() as u32
+    marks.iter().map(|mark| u32::from(*mark)).sum()
 }
 
 // Whether each mark that is set is set in the others too.
