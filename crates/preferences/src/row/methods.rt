@@ -1,4 +1,4 @@
-ghost use Rattle.std.specs.Prelude.{◌≡◌, ◌+◌, ◌≤◌, length, pos, ◌+ℤ◌, ◌*ℤ◌, Decides, MatchOption, slice_index_or, unsigned_abs};
+ghost use Rattle.std.specs.Prelude.{◌≡◌, ◌+◌, ◌≤◌, length, pos, ◌+ℤ◌, ◌*ℤ◌, Decides, MatchOption, if◌then◌else◌, nat_lt, slice_index_or, unsigned_abs};
 ghost use Rattle.std.specs.List.{AllByRecursion};
 ghost use Rattle.model.specs.Limits.{InRange, IsFigureCount};
 ghost use Rattle.model.specs.Values.{entries_of, parts_of};
@@ -75,11 +75,15 @@ impl Row {
         Difference::new(&sums[..difference.entries().len()]).ok()
     }
 
-    // The sum for `added_to` at a figure.
+    // The sum for `added_to` at a figure, and 0 past the last, where nothing is added up.
     fn sum(&self, difference: &Difference, multiplier: u32, index: usize) -> i64
-        ensures { result ≡ slice_index_or (entries_of difference.now) index (pos 0) +ℤ (pos multiplier *ℤ effective_of (constraint_of self.now) index) }
+        ensures { result ≡ (if nat_lt index (length (entries_of difference.now)) then slice_index_or (entries_of difference.now) index (pos 0) +ℤ (pos multiplier *ℤ effective_of (constraint_of self.now) index) else pos 0) }
     {
-        difference.entry(index) + self.times(multiplier, index)
+        if index < difference.entries().len() {
+            difference.entry(index) + self.times(multiplier, index)
+        } else {
+            0
+        }
     }
 
     // Whether the weight keeps the row.
