@@ -1,3 +1,4 @@
+pub mod Asked
 pub mod Found
 pub mod Machine
 pub mod Mixtures

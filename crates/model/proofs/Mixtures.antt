@@ -1,8 +1,13 @@
 -- A claim's difference, one pair more at a time.
-use Rattle.std.proofs.Common.{◌≡◌, ℕ, zero, suc, ◌+◌, ◌<◌, List, [], ◌∷◌, length, get_or, take, ℤ, pos, ◌+ℤ◌, ◌-ℤ◌, ◌*ℤ◌, sym, ap, ◌∙◌, add-one, arith}
+use Rattle.std.proofs.Common.{◌≡◌, ℕ, zero, suc, ◌+◌, ◌-◌, ◌<◌, List, [], ◌∷◌, length, get_or, take, ℤ, pos, ◌+ℤ◌, ◌-ℤ◌, ◌*ℤ◌, sym, ap, ◌∙◌, add-one, arith}
 use lib.IntN.{+ℤ_idl, +ℤ_idr, +ℤ_assoc}
+use Rattle.std.proofs.lemmas.Bool.{lt-ltb, cond-true}
 use Rattle.model.specs.Claims.{figures_at, difference_at}
 use Rattle.model.specs.declared.share.Share.{Share}
+
+-- a number from 1 names a place
+pub figures_at_place : (figures : List (List ℕ)) (number : ℕ) → 0 < number → figures_at figures number ≡ get_or figures (number - 1) []
+figures_at_place figures number some = cond-true _ _ _ (lt-ltb 0 number some)
 
 -- what a pair adds at a figure
 abbrev pub pair_at : List (List ℕ) → ℕ → Share → ℕ → ℤ

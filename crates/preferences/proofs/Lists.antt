@@ -1,7 +1,9 @@
 -- The rows of a flat list, taken from its front one by one, and what multipliers add, one row more at a time.
-use Rattle.std.proofs.Common.{◌≡◌, ℕ, zero, suc, ◌+◌, ◌-◌, ◌/◌, ◌<◌, ◌≤◌, Bool, ◌&&◌, ◌⊎◌, inl, inr, List, [], ◌∷◌, ◌++◌, map, length, take, drop, ℤ, pos, ◌+ℤ◌, ◌*ℤ◌, Decides, sym, refl, ap, ◌∙◌, subst, add-one, arith, get_or-take}
+use Rattle.std.proofs.Common.{◌≡◌, ℕ, zero, suc, ◌+◌, ◌-◌, ◌/◌, ◌<◌, ◌≤◌, Bool, ◌&&◌, ◌⊎◌, inl, inr, List, [], ◌∷◌, ◌++◌, map, length, get_or, take, drop, ℤ, pos, ◌+ℤ◌, ◌*ℤ◌, Decides, sym, refl, ap, ◌∙◌, subst, add-one, arith, get_or-take}
 use native.Mathlib.Nat.{div-eq_of_lt, div-eq-sub-div}
-use Rattle.std.proofs.lemmas.List.{length-append, length-drop, take-take, take_at, drop_at}
+use lib.IntN.{+ℤ_idl, +ℤ_idr, +ℤ_assoc}
+use Rattle.std.proofs.lemmas.List.{length-append, length-drop, length-take-le, take-take, take_at, drop_at}
+use Rattle.std.proofs.ByRecursion.{All-take}
 use Rattle.std.proofs.lemmas.Bool.Decides.{same_from_decides}
 use Rattle.std.specs.List.{AllByRecursion}
 use Rattle.model.specs.Each.{Decides-le}
@@ -32,6 +34,11 @@ pub row_cut : (d : ℕ) (numbers : List ℤ) → row_at_front d (take (d + 1) nu
 row_cut d numbers =
     let below : d < d + 1 = omega arith in
     same_constraint _ _ _ _ (take-take d (d + 1) numbers (omega arith)) (get_or-take (d + 1) numbers d (pos 0) below)
+
+-- what is read of a row at the front
+pub front_read : (d : ℕ) (rest front : List ℤ) → d + 1 ≤ length rest → front ≡ take (d + 1) rest → AllByRecursion InRowLimit rest → (d + 1 ≤ length front) × AllByRecursion InRowLimit front
+front_read d rest front long same all =
+    (omega (arith, ap length same, length-take-le (d + 1) rest long), rw same (All-take InRowLimit (d + 1) rest all))
 
 -- one row taken off the front
 pub row_taken : (d : ℕ) (numbers front back : List ℤ) (row : Constraint) → numbers ≡ front ++ back → length front ≡ d + 1 → row ≡ row_at_front d front → rows_in d numbers ≡ row ∷ rows_in d back
@@ -70,3 +77,15 @@ lift_done f [] ms i h = refl
 lift_done f (x ∷ xs) [] i h = refl
 lift_done f (x ∷ xs) (m ∷ ms) i (inl h) = absurd (omega arith)
 lift_done f (x ∷ xs) (m ∷ ms) i (inr h) = absurd (omega arith)
+
+-- one row more at the end of those that are taken
+lift-suc : (rows : List Constraint) (ms : List ℕ) (k i : ℕ) (r : Constraint) → k < length rows → k < length ms → lift (take (suc k) rows) (take (suc k) ms) i ≡ lift (take k rows) (take k ms) i +ℤ (pos (get_or ms k 0) *ℤ effective (get_or rows k r) i)
+lift-suc [] ms k i r h g = absurd (omega arith)
+lift-suc (row ∷ rows) [] k i r h g = absurd (omega arith)
+lift-suc (row ∷ rows) (m ∷ ms) zero i r h g = +ℤ_idr (pos m *ℤ effective row i) ∙ sym (+ℤ_idl (pos m *ℤ effective row i))
+lift-suc (row ∷ rows) (m ∷ ms) (suc k) i r h g =
+    ap (λ z. (pos m *ℤ effective row i) +ℤ z) (lift-suc rows ms k i r (omega arith) (omega arith))
+    ∙ sym (+ℤ_assoc (pos m *ℤ effective row i) (lift (take k rows) (take k ms) i) (pos (get_or ms k 0) *ℤ effective (get_or rows k r) i))
+
+pub lift_more : (rows : List Constraint) (ms : List ℕ) (k i : ℕ) (r : Constraint) → k < length rows → k < length ms → lift (take (k + 1) rows) (take (k + 1) ms) i ≡ lift (take k rows) (take k ms) i +ℤ (pos (get_or ms k 0) *ℤ effective (get_or rows k r) i)
+lift_more rows ms k i r h g = rw add-one (lift-suc rows ms k i r h g)
