@@ -18,6 +18,10 @@ judgement_not_shown t decides n = sym (cond-false t _ _ (same_from_decides t fal
 pub judgement_same : {P Q : Type 0} (r t : Bool) → Decides r P → Decides t Q → (P → Q) → (Q → P) → judgement r ≡ judgement t
 judgement_same r t says decides there back = ap judgement (same_from_decides r t says (Decides-like t back there decides))
 
+-- the same of a judgement that was made of what the one test said
+pub judgement_told : {P Q : Type 0} (made : Judgement) (said r t : Bool) → made ≡ judgement said → said ≡ r → Decides r P → Decides t Q → (P → Q) → (Q → P) → made ≡ judgement t
+judgement_told made said r t told same says decides there back = told ∙ ap judgement same ∙ judgement_same r t says decides there back
+
 -- what is shown keeps the rule
 pub shown_holds : (t : Bool) → judgement t ≡ Judgement.Shown → t ≡ true
 shown_holds true h = refl
