@@ -111,7 +111,8 @@ fn make_sheet(rt: &HostRuntime, figures: &[u32]) -> Result<Option<PlainSheet>> {
 fn check_claims(rt: &HostRuntime, preference: &Rows, barn: &Barn<'_>) -> Result<()> {
     for claim in CLAIMS {
         let finding = check(rt.alloc(), preference, barn, claim)?;
-        println!(rt; "{claim}\n{finding}")?;
+        println!(rt; "{claim}")?;
+        println!(rt; "{finding}")?;
     }
     Ok(())
 }
